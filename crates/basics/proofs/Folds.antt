@@ -1,0 +1,193 @@
+-- The laws of a fold over the numbers below n that pass a test. One law takes the least of them off, for every fold
+-- at once: it is what a loop that walks a set does at each turn. Assumes nothing.
+use mathlib.Core.Path.{_≡_, refl, sym, ap, ap₂, _∙_, subst}
+use mathlib.Core.Logic.{_⊎_, inl, inr, ⊎-elim}
+use mathlib.Core.Bool.{Bool, true, false, not, _&&_, _||_, or-assoc, or-false, and-true, and-false, false≢true}
+use mathlib.Core.List.{List, [], _∷_, _++_, append-nil, append-assoc}
+use Prim.Native.Nat.{ℕ, zero, suc, _+_, _≤_, _<_, zero-le}
+use native.Mathlib.Nat.{not-suc-le-zero, add-assoc, zero-add, add-zero, le-refl}
+use native.Mathlib.Omega.{arith}
+use lib.Dec.{eqb, leb, leb·zero}
+use lib.ListN.{getD}
+use borrow.Author.Tests.{eq-eqb, ne-eqb, eqb-true, leb-true, leb-false}
+use Rattle.basics.specs.Folds.{foldIf, sumIf, anyIf, listIf, mostIf, larger, Less, LeastOf}
+use Rattle.basics.proofs.Tests.{by-test, by-equal, if-yes, if-no, if-either, or-left, or-right, or-cases, and-parts, and-of, same-test}
+
+pub less-here : (p q : ℕ → Bool) (t : ℕ) → Less p t q → q t ≡ false
+less-here p q t e = e t ∙ ap (λ (b : Bool). p t && not b) (eq-eqb t t refl) ∙ and-false (p t)
+
+pub less-other : (p q : ℕ → Bool) (t : ℕ) → Less p t q → (j : ℕ) → (t ≡ j → ⊥) → q j ≡ p j
+less-other p q t e j d = e j ∙ ap (λ (b : Bool). p j && not b) (ne-eqb t j d) ∙ and-true (p j)
+
+module _ {A : Type 0} (none : A) (join : A → A → A) where
+  -- one number more: it passes, or it does not
+  pub fold-yes : (p : ℕ → Bool) (f : ℕ → A) (n : ℕ) → p n ≡ true → foldIf none join p f (suc n) ≡ join (foldIf none join p f n) (f n)
+  unfolding foldIf
+  fold-yes p f n e = if-yes (join (foldIf none join p f n) (f n)) (foldIf none join p f n) (p n) e
+
+  pub fold-no : (p : ℕ → Bool) (f : ℕ → A) (n : ℕ) → p n ≡ false → foldIf none join p f (suc n) ≡ foldIf none join p f n
+  unfolding foldIf
+  fold-no p f n e = if-no (join (foldIf none join p f n) (f n)) (foldIf none join p f n) (p n) e
+
+  pub fold-zero : (p : ℕ → Bool) (f : ℕ → A) → foldIf none join p f 0 ≡ none
+  unfolding foldIf
+  fold-zero p f = refl
+
+  -- two folds are one where test and values agree
+  pub fold-same : (p q : ℕ → Bool) (f g : ℕ → A) (n : ℕ) → ((i : ℕ) → i < n → p i ≡ q i) → ((i : ℕ) → i < n → p i ≡ true → f i ≡ g i)
+      → foldIf none join p f n ≡ foldIf none join q g n
+  fold-same p q f g zero h k = fold-zero p f ∙ sym (fold-zero q g)
+  fold-same p q f g (suc n) h k =
+      let r = fold-same p q f g n (λ i l. h i (omega arith)) (λ i l. k i (omega arith)) in
+      let s = h n (le-refl (suc n)) in
+      by-test (p n)
+      (λ e. fold-yes p f n e ∙ ap₂ join r (k n (le-refl (suc n)) e) ∙ sym (fold-yes q g n (sym s ∙ e)))
+      (λ e. fold-no p f n e ∙ r ∙ sym (fold-no q g n (sym s ∙ e)))
+
+  -- where none passes, there is nothing to join
+  pub fold-none : (p : ℕ → Bool) (f : ℕ → A) (n : ℕ) → ((i : ℕ) → i < n → p i ≡ false) → foldIf none join p f n ≡ none
+  fold-none p f zero h = fold-zero p f
+  fold-none p f (suc n) h = fold-no p f n (h n (le-refl (suc n))) ∙ fold-none p f n (λ i l. h i (omega arith))
+
+  -- what can hold of each value, and is kept by joining, holds of the fold
+  pub fold-keeps {ℓ} : (P : A → Type ℓ) → P none → ((a b : A) → P a → P b → P (join a b)) → (p : ℕ → Bool) (f : ℕ → A) (n : ℕ) → ((i : ℕ) → i < n → p i ≡ true → P (f i))
+      → P (foldIf none join p f n)
+  fold-keeps P z k p f zero h = subst P (sym (fold-zero p f)) z
+  fold-keeps P z k p f (suc n) h =
+      let r = fold-keeps P z k p f n (λ i l. h i (omega arith)) in
+      by-test (p n)
+      (λ e. subst P (sym (fold-yes p f n e)) (k (foldIf none join p f n) (f n) r (h n (le-refl (suc n)) e)))
+      (λ e. subst P (sym (fold-no p f n e)) r)
+
+  -- a fact of one value that joining keeps on either side holds of the fold that has it
+  pub fold-has {ℓ} : (P : A → Type ℓ) → ((a b : A) → P a → P (join a b)) → ((a b : A) → P b → P (join a b)) → (p : ℕ → Bool) (f : ℕ → A) (n i : ℕ) → i < n → p i ≡ true → P (f i)
+      → P (foldIf none join p f n)
+  fold-has P k l p f zero i m y h = absurd (not-suc-le-zero m)
+  fold-has P k l p f (suc n) i m y h =
+      let r = fold-has P k l p f n i in
+      by-equal i n
+      (λ z. subst P (sym (fold-yes p f n (ap p (sym z) ∙ y))) (l (foldIf none join p f n) (f n) (subst (λ (j : ℕ). P (f j)) z h)))
+      (λ d.
+      by-test (p n)
+      (λ e. subst P (sym (fold-yes p f n e)) (k (foldIf none join p f n) (f n) (r (omega arith) y h)))
+      (λ e. subst P (sym (fold-no p f n e)) (r (omega arith) y h)))
+
+  -- for a fold that can be regrouped: the least member first, then the others
+  module _ (left : (a : A) → join none a ≡ a) (right : (a : A) → join a none ≡ a) (assoc : (a b c : A) → join (join a b) c ≡ join a (join b c)) where
+    pub fold-least : (p q : ℕ → Bool) (t : ℕ) → Less p t q → p t ≡ true → ((j : ℕ) → j < t → p j ≡ false) → (f : ℕ → A) (n : ℕ) → t < n
+        → foldIf none join p f n ≡ join (f t) (foldIf none join q f n)
+    fold-least p q t e here low f zero l = absurd (not-suc-le-zero l)
+    fold-least p q t e here low f (suc n) l =
+        by-equal t n
+        (λ z.
+        let before : foldIf none join p f n ≡ none = fold-none p f n (λ i k. low i (omega arith)) in
+        let after : foldIf none join q f n ≡ none = fold-none q f n (λ i k. less-other p q t e i (λ y. omega arith) ∙ low i (omega arith)) in
+        fold-yes p f n (ap p (sym z) ∙ here) ∙ ap₂ join before (ap f (sym z)) ∙ left (f t) ∙ sym (right (f t))
+        ∙ ap (join (f t)) (sym (fold-no q f n (ap q (sym z) ∙ less-here p q t e) ∙ after)))
+        (λ d.
+        let r = fold-least p q t e here low f n (omega arith) in
+        let s : q n ≡ p n = less-other p q t e n d in
+        by-test (p n)
+        (λ y. fold-yes p f n y ∙ ap (λ (a : A). join a (f n)) r ∙ assoc (f t) (foldIf none join q f n) (f n) ∙ ap (join (f t)) (sym (fold-yes q f n (s ∙ y))))
+        (λ y. fold-no p f n y ∙ r ∙ ap (join (f t)) (sym (fold-no q f n (s ∙ y)))))
+
+-- a function that turns one joining into another turns one fold into the other
+pub fold-through : {A B : Type 0} (none : A) (join : A → A → A) (none′ : B) (join′ : B → B → B) (h : A → B) → h none ≡ none′ → ((a b : A) → h (join a b) ≡ join′ (h a) (h b))
+    → (p : ℕ → Bool) (f : ℕ → A) (n : ℕ) → h (foldIf none join p f n) ≡ foldIf none′ join′ p (λ i. h (f i)) n
+fold-through none join none′ join′ h z k p f zero = ap h (fold-zero none join p f) ∙ z ∙ sym (fold-zero none′ join′ p (λ i. h (f i)))
+fold-through {B = B} none join none′ join′ h z k p f (suc n) =
+    let r = fold-through none join none′ join′ h z k p f n in
+    by-test (p n)
+    (λ e. ap h (fold-yes none join p f n e) ∙ k (foldIf none join p f n) (f n) ∙ ap (λ (b : B). join′ b (h (f n))) r ∙ sym (fold-yes none′ join′ p (λ i. h (f i)) n e))
+    (λ e. ap h (fold-no none join p f n e) ∙ r ∙ sym (fold-no none′ join′ p (λ i. h (f i)) n e))
+
+-- ---- sums and lists
+
+pub sum-least : (p q : ℕ → Bool) (t : ℕ) → Less p t q → p t ≡ true → ((j : ℕ) → j < t → p j ≡ false) → (f : ℕ → ℕ) (n : ℕ) → t < n → sumIf p f n ≡ f t + sumIf q f n
+sum-least = fold-least 0 _+_ zero-add add-zero add-assoc
+
+pub list-least : (p q : ℕ → Bool) (t : ℕ) → Less p t q → p t ≡ true → ((j : ℕ) → j < t → p j ≡ false) → (n : ℕ) → t < n → listIf p n ≡ t ∷ listIf q n
+list-least p q t e here low n l = fold-least [] _++_ (λ a. refl) append-nil append-assoc p q t e here low (λ i. i ∷ []) n l
+
+-- ---- the least of them
+
+pub least : (p : ℕ → Bool) (n : ℕ) → ((i : ℕ) → i < n → p i ≡ false) ⊎ ((t : ℕ) × (t < n) × LeastOf p t)
+least p zero = inl (λ i l. absurd (not-suc-le-zero l))
+least p (suc n) =
+    ⊎-elim
+    (λ none.
+    by-test (p n) (λ e. inr (n, le-refl (suc n), record { here = e; none = none }))
+    (λ e. inl (λ i l. by-equal i n (λ z. ap p z ∙ e) (λ d. none i (omega arith)))))
+    (λ r. inr (r .0, (let l = r .1 in omega arith), r .2)) (least p n)
+
+pub list-first : (p : ℕ → Bool) (n t : ℕ) → t < n → LeastOf p t → getD (listIf p n) 0 0 ≡ t
+list-first p n t l h = ap (λ (xs : List ℕ). getD xs 0 0) (list-least p (λ j. p j && not (eqb t j)) t (λ j. refl) (h .here) (h .none) n l)
+
+pub list-none : (p : ℕ → Bool) (n : ℕ) → ((i : ℕ) → i < n → p i ≡ false) → getD (listIf p n) 0 0 ≡ 0
+list-none p n h = ap (λ (xs : List ℕ). getD xs 0 0) (fold-none [] _++_ p (λ i. i ∷ []) n h)
+
+-- ---- the greatest
+
+-- the larger of two is above both, and below all that is
+pub le-larger : (a b : ℕ) → (a ≤ larger a b) × (b ≤ larger a b)
+le-larger a b = if-either (λ (x : ℕ). (a ≤ x) × (b ≤ x)) b a (leb a b) (λ e. omega (arith, leb-true a b e)) (λ e. omega (arith, leb-false a b e))
+
+pub larger-le : (a b k : ℕ) → a ≤ k → b ≤ k → larger a b ≤ k
+larger-le a b k p q = if-either (λ (x : ℕ). x ≤ k) b a (leb a b) (λ e. q) (λ e. p)
+
+pub larger-assoc : (a b c : ℕ) → larger (larger a b) c ≡ larger a (larger b c)
+larger-assoc a b c =
+    let x = larger a b in
+    let y = larger b c in
+    let p = le-larger a b in
+    let q = le-larger x c in
+    let r = le-larger b c in
+    let s = le-larger a y in
+    omega (arith, larger-le x c (larger a y) (larger-le a b (larger a y) (s .0) (omega arith)) (omega arith), larger-le a y (larger x c) (omega arith) (larger-le b c (larger x c) (omega arith) (q .1)))
+
+pub most-least : (p q : ℕ → Bool) (t : ℕ) → Less p t q → p t ≡ true → ((j : ℕ) → j < t → p j ≡ false) → (f : ℕ → ℕ) (n : ℕ) → t < n → mostIf p f n ≡ larger (f t) (mostIf q f n)
+most-least =
+    fold-least 0 larger (λ a. if-yes a 0 (leb 0 a) (leb·zero a)) (λ a. omega (arith, le-larger a 0, larger-le a 0 a (le-refl a) zero-le)) larger-assoc
+
+-- no value is above it
+pub most-above : (p : ℕ → Bool) (f : ℕ → ℕ) (n i : ℕ) → i < n → p i ≡ true → f i ≤ mostIf p f n
+most-above p f n i l e =
+    fold-has 0 larger (λ (a : ℕ). f i ≤ a) (λ a b h. omega (arith, le-larger a b)) (λ a b h. omega (arith, le-larger a b)) p f n i l e (le-refl (f i))
+
+-- where it is above 0, it is one of the values
+pub most-found : (p : ℕ → Bool) (f : ℕ → ℕ) (n : ℕ) → 1 ≤ mostIf p f n → (i : ℕ) × (i < n) × (p i ≡ true) × (f i ≡ mostIf p f n)
+most-found p f n =
+    fold-keeps 0 larger (λ (a : ℕ). 1 ≤ a → (i : ℕ) × (i < n) × (p i ≡ true) × (f i ≡ a)) (λ h. absurd (omega arith))
+    (λ a b h k. if-either (λ (x : ℕ). 1 ≤ x → (i : ℕ) × (i < n) × (p i ≡ true) × (f i ≡ x)) b a (leb a b) (λ e. k) (λ e. h)) p f n (λ i l e h. (i, l, e, refl))
+
+-- ---- a test that holds of a member
+
+pub any-least : (p q : ℕ → Bool) (t : ℕ) → Less p t q → p t ≡ true → ((j : ℕ) → j < t → p j ≡ false) → (f : ℕ → Bool) (n : ℕ) → t < n → anyIf p f n ≡ (f t || anyIf q f n)
+any-least = fold-least false _||_ (λ b. refl) or-false or-assoc
+
+pub any-true : (p f : ℕ → Bool) (n i : ℕ) → i < n → p i ≡ true → f i ≡ true → anyIf p f n ≡ true
+any-true = fold-has false _||_ (λ (b : Bool). b ≡ true) or-left or-right
+
+pub record Found (p f : ℕ → Bool) (n : ℕ) : Type 0 where
+  pub i : ℕ
+  pub under : i < n
+  pub member : p i ≡ true
+  pub holds : f i ≡ true
+
+pub any-found : (p f : ℕ → Bool) (n : ℕ) → anyIf p f n ≡ true → Found p f n
+any-found p f n =
+    fold-keeps false _||_ (λ (b : Bool). b ≡ true → Found p f n) (λ e. absurd (false≢true e)) (λ a b x y e. ⊎-elim x y (or-cases a b e)) p f n
+    (λ i l e h. record { i = i; under = l; member = e; holds = h })
+
+-- the members that pass f, one at a time: what a loop that keeps them has kept in the end
+pub any-one : (p f : ℕ → Bool) (n j : ℕ) → (p j ≡ true → j < n) → anyIf p (λ i. f i && eqb i j) n ≡ (p j && f j)
+any-one p f n j l =
+    same-test (anyIf p (λ i. f i && eqb i j) n) (p j && f j)
+    (λ e.
+    let w = any-found p (λ i. f i && eqb i j) n e in
+    let h = and-parts (f (w .i)) (eqb (w .i) j) (w .holds) in
+    let z = eqb-true (w .i) j (h .1) in
+    and-of (p j) (f j) (ap p (sym z) ∙ w .member) (ap f (sym z) ∙ h .0))
+    (λ e.
+    let h = and-parts (p j) (f j) e in
+    any-true p (λ i. f i && eqb i j) n j (l (h .0)) (h .0) (and-of (f j) (eqb j j) (h .1) (eq-eqb j j refl)))

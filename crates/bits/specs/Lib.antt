@@ -1,0 +1,2 @@
+-- Sets of numbers in a u64.
+pub mod Bits

@@ -1,0 +1,13 @@
+pub mod Lists
+pub mod Parts
+pub mod Grammar
+pub mod Positions
+pub mod Faults
+pub mod Folds
+pub mod Readings
+pub mod Texts
+pub mod Reach
+pub mod Ways
+pub mod Verdicts
+pub mod Evidence
+pub mod Same

@@ -1,0 +1,4 @@
+pub mod Walks
+pub mod Trim
+pub mod Counting
+pub mod Marks

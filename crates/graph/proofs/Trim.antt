@@ -1,0 +1,31 @@
+-- What a verdict asks of a graph beyond its definition: every set holds a letter and letters only, and every position lies on a
+-- short way from before any letter to an end (the automaton is trim). Patterns' graphs have it. Assumes nothing.
+use mathlib.Core.Path.{_≡_}
+use mathlib.Core.Bool.{true}
+use mathlib.Core.List.{List, [], _∷_}
+use Prim.Native.Nat.{ℕ, _≤_}
+use lib.ListN.{length}
+use Rattle.basics.specs.Lists.{endOf}
+use Rattle.letters.specs.Alphabet.{isLetter, someLetter}
+use Rattle.graph.specs.Graph.{Graph, isPosition}
+
+module _ (g : Graph) where
+  -- from a state through positions, each of which may come next, whatever their letters
+  abbrev pub Route : ℕ → List ℕ → Type 0
+  Route u [] = Unit {0}
+  Route u (i ∷ r) = (isPosition g i ≡ true) × (g .next u i ≡ true) × Route i r
+
+  pub record Useful (q : ℕ) : Type 0 where
+    pub way-in : List ℕ
+    pub goes-in : Route 0 way-in
+    pub comes : endOf 0 way-in ≡ q
+    pub short-in : length way-in ≤ g .places
+    pub way-out : List ℕ
+    pub goes-out : Route q way-out
+    pub ends : g .last (endOf q way-out) ≡ true
+    pub short-out : length way-out ≤ g .places
+
+  pub record Trim : Type 0 where
+    pub letters : (i c : ℕ) → g .holds i c ≡ true → isLetter c ≡ true
+    pub lettered : (i : ℕ) → isPosition g i ≡ true → someLetter (g .holds i) ≡ true
+    pub useful : (q : ℕ) → isPosition g q ≡ true → Useful q

@@ -1,0 +1,21 @@
+-- The graph that a built pattern shows.
+use mathlib.Core.List.{List}
+use Prim.Native.Nat.{ℕ}
+use lib.ListN.{getD}
+use Rattle.bits.specs.Bits.{hasBit}
+use Rattle.letters.specs.LetterSet.{hasLetter}
+use Rattle.letters.specs.declared.LetterSet.{LetterSet}
+use Rattle.graph.specs.Graph.{Graph}
+use Rattle.graph.specs.declared.Built.{Built}
+
+abbrev pub setAt : List LetterSet → ℕ → LetterSet
+setAt sets i = getD sets i record { low = 0; high = 0 }
+
+abbrev pub shows : Built → Graph
+shows b = record {
+  places = b .places;
+  next = λ u i. hasBit (getD (b .follow) u 0) i;
+  last = λ u. hasBit (b .lasts) u;
+  holds = λ i c. hasLetter (setAt (b .letters) i) c;
+  credit = λ i. getD (b .credits) i 0;
+}

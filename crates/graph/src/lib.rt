@@ -1,0 +1,15 @@
+// The graph of a pattern's positions as marking and vetting get it: the built pattern. What a reading, a count and a mark
+// are in such a graph is said in specs/.
+use letters::LetterSet;
+
+// A pattern of up to 60 positions, by value. Entry i of each array is position i's, and entry 0 that of the state before any
+// letter: `follow[i]` is the set of positions that may come next (for 0 the firsts), `letters[i]` and `credits[i]` are what
+// position i holds and earns (nothing for 0). `lasts` is the set of states at which a reading may end, with 0 where the
+// pattern can be empty. Numbers past `places` are in no set, and their entries are empty.
+pub struct Built {
+    pub places: usize,
+    pub follow: [u64; 61],
+    pub lasts: u64,
+    pub letters: [LetterSet; 61],
+    pub credits: [u8; 61],
+}

@@ -1,0 +1,32 @@
+-- The letters. All that depends on which codes are letters stands here.
+use mathlib.Core.Bool.{Bool, true, false, _&&_, _||_}
+use mathlib.Core.List.{List, [], _∷_}
+use Prim.Native.Nat.{ℕ, zero, suc}
+use lib.Dec.{leb}
+use Rattle.basics.specs.Choice.{if_then_else_}
+
+-- "Letters are the 95 byte codes 32 to 126 (decimal)."
+abbrev pub isLetter : ℕ → Bool
+isLetter c = leb 32 c && leb c 126
+
+-- "every text is a list of letters, of any length, empty included"
+abbrev pub allLetters : List ℕ → Bool
+allLetters [] = true
+allLetters (c ∷ s) = isLetter c && allLetters s
+
+-- does one of the n codes from c on pass a test, and the lowest that does, 0 for none
+unfoldable pub someFrom : ℕ → ℕ → (ℕ → Bool) → Bool
+someFrom zero c f = false
+someFrom (suc n) c f = f c || someFrom n (suc c) f
+
+unfoldable pub lowestFrom : ℕ → ℕ → (ℕ → Bool) → ℕ
+lowestFrom zero c f = 0
+lowestFrom (suc n) c f = if f c then c else lowestFrom n (suc c) f
+
+-- does a letter pass the test: a set, given by its test, has a letter
+abbrev pub someLetter : (ℕ → Bool) → Bool
+someLetter f = someFrom 95 32 f
+
+-- the letter shown of a set: "the lowest"
+abbrev pub lowestLetter : (ℕ → Bool) → ℕ
+lowestLetter f = lowestFrom 95 32 f

@@ -1,0 +1,3 @@
+-- The letters, and sets of them.
+pub mod Alphabet
+pub mod LetterSet

@@ -1,0 +1,9 @@
+-- Proofs about patterns: links, runs, texts and readings; what acceptance says; the specimens.
+pub mod Link
+pub mod Within
+pub mod Runs
+pub mod RunTexts
+pub mod Texts
+pub mod Accepted
+pub mod Useful
+pub mod Specimens

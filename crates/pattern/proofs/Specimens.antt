@@ -1,0 +1,155 @@
+-- The specimens: refusal numbers, counts and marks that the rules give, by computation, in one theorem over one table.
+-- Assumes nothing.
+use mathlib.Core.Path.{_≡_, refl}
+use mathlib.Core.Bool.{Bool, true, _&&_}
+use mathlib.Core.List.{List, [], _∷_, _++_}
+use Prim.Native.Nat.{ℕ}
+use Prim.Native.Char.{code}
+use Prim.Native.String.{String}
+use lib.Dec.{eqb}
+use lib.ListN.{replicate}
+use Rattle.basics.specs.Choice.{if_then_else_}
+use Rattle.basics.specs.Bytes.{codes}
+use Rattle.basics.specs.Folds.{foldIf}
+use Rattle.letters.specs.Alphabet.{someFrom}
+use Rattle.graph.specs.Readings.{readings, mark}
+use Rattle.pattern.specs.Grammar.{patternPart}
+use Rattle.pattern.specs.Refusals.{patternFault}
+use Rattle.pattern.specs.Positions.{graphOf}
+
+-- a pattern and an answer, the refusal (0 for none), and where there is none the count and the mark
+record Row : Type 0 where
+  pattern : List ℕ
+  answer : List ℕ
+  refusal : ℕ
+  count : ℕ
+  credit : ℕ
+
+abbrev accepts : String → String → ℕ → ℕ → Row
+accepts p a c m = record { pattern = codes p; answer = codes a; refusal = 0; count = c; credit = m }
+
+abbrev declines : String → ℕ → Row
+declines p n = record { pattern = codes p; answer = []; refusal = n; count = 0; credit = 0 }
+
+-- k times `.`, then p
+abbrev long : ℕ → String → ℕ → Row
+long k p n = record { pattern = replicate k (code ".") ++ codes p; answer = []; refusal = n; count = 0; credit = 0 }
+
+-- the starred ones of the paper
+abbrev starred : List Row
+starred =
+    accepts "(a|a)b" "ab" 2 0
+    ∷ accepts "(a|a)b" "b" 0 0
+    ∷ accepts "a*a*" "aaa" 4 0
+    ∷ accepts "(a|a)*" "aaa" 8 0
+    ∷ accepts "(a*)*" "aaa" 1 0
+    ∷ accepts "[a-l]*[m-z]*" "am" 1 0
+    ∷ accepts "[a-m]*[m-z]*" "m" 2 0
+    ∷ accepts "a=2b|ab=3" "ab" 2 3
+    ∷ accepts "(a=1|a)*" "aaa" 8 3
+    ∷ accepts "a?" "" 1 0
+    ∷ declines "" 5
+    ∷ declines "()" 5
+    ∷ declines "a**" 5
+    ∷ declines "[z-a]" 6
+    ∷ declines "[^ -~]" 7
+    ∷ []
+
+-- and what pins each rule of the grammar down
+abbrev grammar : List Row
+grammar =
+    -- `.` is all letters
+    accepts "." " " 1 0
+    ∷ accepts "." "~" 1 0
+    ∷ accepts "." "ab" 0 0
+    -- a byte that is not special, `\` with one that is
+    ∷ accepts " !\"#%&',-/0123456789:;<>@ABCDEFGHIJKLMNOPQRSTUVWXYZ" "" 0 0
+    ∷ accepts "_`abcdefghijklmnopqrstuvwxyz~" "" 0 0
+    ∷ accepts "\\|\\*\\+\\?\\(\\)\\[\\]\\{\\}\\^\\$\\.\\\\\\=" "|*+?()[]{}^$.\\=" 1 0
+    ∷ declines "\\a" 5
+    ∷ declines "\\" 5
+    -- classes
+    ∷ accepts "[^a]" "b" 1 0
+    ∷ accepts "[^a]" "a" 0 0
+    ∷ accepts "[a\\-\\]]*" "-]a" 1 0
+    ∷ accepts "[a\\-\\]]" "\\" 0 0
+    ∷ accepts "[\\^\\[\\\\]*" "^[\\" 1 0
+    ∷ accepts "[|*+?(){}$.=]*" "|*+?(){}$.=" 1 0
+    ∷ accepts "[.]" "a" 0 0
+    ∷ accepts "[a-c]" "a" 1 0
+    ∷ accepts "[a-c]" "c" 1 0
+    ∷ accepts "[a-c]" "d" 0 0
+    ∷ accepts "[b-b]" "b" 1 0
+    ∷ accepts "[a-cb-d]=4" "b" 1 4
+    ∷ declines "[a-]" 5
+    ∷ declines "[]" 5
+    ∷ declines "[^]" 5
+    ∷ declines "[a" 5
+    ∷ declines "[-a]" 5
+    ∷ declines "[a^]" 5
+    ∷ declines "[a-c-e]" 5
+    -- `-` is not special outside a class
+    ∷ accepts "a-b" "a-b" 1 0
+    -- credits
+    ∷ accepts "[ab]=3" "b" 1 3
+    ∷ accepts "\\==3" "=" 1 3
+    ∷ accepts ".=3" "x" 1 3
+    ∷ accepts "a=9" "a" 1 9
+    ∷ accepts "a=1*" "aa" 1 2
+    ∷ declines "a=0" 5
+    ∷ declines "a=:" 5
+    ∷ declines "=1" 5
+    ∷ declines "a=" 5
+    ∷ declines "(a)=1" 5
+    ∷ declines "a*=1" 5
+    ∷ declines "a=1=2" 5
+    -- repeats
+    ∷ accepts "a+" "" 0 0
+    ∷ accepts "a+" "aa" 1 0
+    ∷ accepts "a?" "aa" 0 0
+    ∷ accepts "(a*)+" "" 1 0
+    ∷ accepts "ab*" "abab" 0 0
+    ∷ accepts "(ab)*" "abab" 1 0
+    -- no branch and no piece is missing, no bracket is open, and no other syntax is read
+    ∷ declines "a|" 5
+    ∷ declines "|a" 5
+    ∷ declines "(a" 5
+    ∷ declines "a)" 5
+    ∷ declines "*a" 5
+    ∷ declines "(a|)" 5
+    ∷ declines "a{2}" 5
+    ∷ declines "^a" 5
+    ∷ declines "a$" 5
+    ∷ declines "]" 5
+    -- bytes that are no letters
+    ∷ declines "\u{1f}" 4
+    ∷ declines "\u{7f}" 4
+    ∷ declines "[\u{1f}]" 4
+    ∷ declines "[\u{7f}]" 4
+    -- checking order
+    ∷ declines "(\u{1f}" 4
+    ∷ declines "[z-a" 5
+    ∷ declines "[^ -~][z-a]" 6
+    -- at most 60 positions, at most 512 bytes
+    ∷ long 60 "" 0
+    ∷ long 61 "" 8
+    ∷ long 60 "[^ -~]" 7
+    ∷ long 511 "\u{1f}" 4
+    ∷ long 512 "\u{1f}" 3
+    ∷ []
+
+abbrev right : Row → Bool
+right r =
+    let p = r .pattern in
+    let g = graphOf (patternPart p) in
+    let a = r .answer in
+    eqb (patternFault p) (r .refusal)
+    && (if eqb (patternFault p) 0 then eqb (readings g a) (r .count) && eqb (mark g a) (r .credit) else true)
+
+abbrev allRight : List Row → Bool
+allRight [] = true
+allRight (r ∷ rs) = right r && allRight rs
+
+pub specimens : allRight (starred ++ grammar) ≡ true
+unfolding foldIf someFrom
+specimens = refl

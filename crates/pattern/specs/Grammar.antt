@@ -1,0 +1,149 @@
+-- The grammar, as functions that read a pattern's bytes from the left.
+use mathlib.Core.Bool.{Bool, true, false, _&&_, _||_, not}
+use mathlib.Core.List.{List, [], _∷_, _++_}
+use Prim.Native.Nat.{ℕ, zero, suc, _+_, _-_, _*_}
+use Prim.Native.Char.{code}
+use lib.Dec.{eqb, leb}
+use lib.ListN.{length, getD, drop}
+use Rattle.basics.specs.Choice.{if_then_else_}
+use Rattle.basics.specs.Bytes.{codes, isIn}
+use Rattle.pattern.specs.Parts.{Item, item, Atom, atom, optional, star, plus, Part, letter, either, joined, again}
+
+-- what reading a part gives: does the grammar hold, the part, the bytes after it
+pub record Read : Type 0 where
+  pub good : Bool
+  pub part : Part
+  pub rest : List ℕ
+
+abbrev pub read : Part → List ℕ → Read
+read p s = record { good = true; part = p; rest = s }
+
+abbrev pub noAtom : Atom
+noAtom = atom false [] 0
+
+abbrev pub broken : Read
+broken = record { good = false; part = letter noAtom; rest = [] }
+
+-- the first byte, 0 where there is none (0 is no byte of the grammar)
+abbrev pub peek : List ℕ → ℕ
+peek s = getD s 0 0
+
+-- "Fifteen bytes are special"
+abbrev pub special : List ℕ
+special = codes "|*+?()[]{}^$.\\="
+
+-- ---- "A class is `[`, perhaps `^`, one or more items, `]`."
+
+abbrev pub classSpecial : List ℕ
+classSpecial = codes "[]\\^-"
+
+-- "A class letter is any byte but `[ ] \ ^ -`, or `\` with one of those five": its byte plus 1, or 0 where there is none, and
+-- how many bytes it takes
+abbrev pub classLetter : List ℕ → ℕ
+classLetter [] = 0
+classLetter (b ∷ s) =
+    if eqb b (code "\\") then (if isIn (peek s) classSpecial then suc (peek s) else 0)
+    else if isIn b classSpecial then 0
+    else suc b
+
+abbrev pub classLetterLong : List ℕ → ℕ
+classLetterLong s = if eqb (peek s) (code "\\") then 2 else 1
+
+pub record Items : Type 0 where
+  pub good : Bool
+  pub items : List Item
+  pub rest : List ℕ
+
+abbrev pub itemsRead : Bool → List Item → List ℕ → Items
+itemsRead g is s = record { good = g; items = is; rest = s }
+
+-- "An item is one class letter, or two with `-` between them." The items so far, and those to come up to `]`. (The first number
+-- bounds how many there are.)
+abbrev pub itemsFrom : ℕ → List Item → List ℕ → Items
+itemsFrom zero is s = itemsRead false [] []
+itemsFrom (suc f) is s =
+    let a = classLetter s in
+    let t = drop (classLetterLong s) s in
+    let b = classLetter (drop 1 t) in
+    let u = drop (suc (classLetterLong (drop 1 t))) t in
+    if eqb a 0 then itemsRead (eqb (peek s) (code "]") && not (eqb (length is) 0)) is (drop 1 s)
+    else if eqb (peek t) (code "-") then (if eqb b 0 then itemsRead false [] [] else itemsFrom f (is ++ (item (a - 1) (b - 1) ∷ [])) u)
+    else itemsFrom f (is ++ (item (a - 1) (a - 1) ∷ [])) t
+
+-- ---- "A lettered atom is a byte that is not special, `\` with one special byte, `.` (all 95 letters), or a class."
+
+-- "A credit is `=` and a digit 1 to 9, directly after a lettered atom."
+abbrev pub withCredit : Bool → List Item → List ℕ → Read
+withCredit o is s =
+    let d = getD s 1 0 in
+    if eqb (peek s) (code "=") then (if leb (code "1") d && leb d (code "9") then read (letter (atom o is (d - code "0"))) (drop 2 s) else broken)
+    else read (letter (atom o is 0)) s
+
+abbrev pub readClass : List ℕ → Read
+readClass s =
+    let o = eqb (peek s) (code "^") in
+    let x = itemsFrom (suc (length s)) [] (if o then drop 1 s else s) in
+    if x .good then withCredit o (x .items) (x .rest) else broken
+
+abbrev pub readLetter : List ℕ → Read
+readLetter [] = broken
+readLetter (b ∷ s) =
+    if eqb b (code "[") then readClass s
+    else if eqb b (code ".") then withCredit true [] s
+    else if eqb b (code "\\") then (if isIn (peek s) special then withCredit false (item (peek s) (peek s) ∷ []) (drop 1 s) else broken)
+    else if isIn b special then broken
+    else withCredit false (item b b ∷ []) s
+
+-- ---- "A pattern is branches, a branch is pieces, a piece may hold a pattern."
+
+-- "A piece is an atom with at most one of `*`, `+`, `?` after it."
+abbrev pub repeated : Read → Read
+repeated a =
+    let b = peek (a .rest) in
+    if a .good && eqb b (code "?") then read (again optional (a .part)) (drop 1 (a .rest))
+    else if a .good && eqb b (code "*") then read (again star (a .part)) (drop 1 (a .rest))
+    else if a .good && eqb b (code "+") then read (again plus (a .part)) (drop 1 (a .rest))
+    else a
+
+-- does a branch go on after a piece
+abbrev pub goesOn : List ℕ → Bool
+goesOn s = not (eqb (length s) 0 || (eqb (peek s) (code "|") || eqb (peek s) (code ")")))
+
+-- (The first number bounds how deep the functions call each other.)
+abbrev mutual
+  -- "Branches are one or more, parted by `|`"
+  pub patternFrom : ℕ → List ℕ → Read
+  patternFrom zero s = broken
+  patternFrom (suc f) s =
+      let a = branchFrom f s in
+      let b = patternFrom f (drop 1 (a .rest)) in
+      if a .good && eqb (peek (a .rest)) (code "|") then (if b .good then read (either (a .part) (b .part)) (b .rest) else broken)
+      else a
+
+  -- "a branch has one or more pieces"
+  pub branchFrom : ℕ → List ℕ → Read
+  branchFrom zero s = broken
+  branchFrom (suc f) s =
+      let a = pieceFrom f s in
+      let b = branchFrom f (a .rest) in
+      if a .good && goesOn (a .rest) then (if b .good then read (joined (a .part) (b .part)) (b .rest) else broken)
+      else a
+
+  -- "An atom is a lettered atom, with or without a credit, or a pattern in `( )`."
+  pub pieceFrom : ℕ → List ℕ → Read
+  pieceFrom zero s = broken
+  pieceFrom (suc f) s =
+      let a = patternFrom f (drop 1 s) in
+      if eqb (peek s) (code "(") then (if a .good && eqb (peek (a .rest)) (code ")") then repeated (read (a .part) (drop 1 (a .rest))) else broken)
+      else repeated (readLetter s)
+
+-- a pattern from its first byte on, three calls deep for each byte
+abbrev pub readPattern : List ℕ → Read
+readPattern s = patternFrom (suc (3 * suc (length s))) s
+
+-- does the whole of it follow the grammar, and the part that it is
+abbrev pub isPattern : List ℕ → Bool
+isPattern s = readPattern s .good && eqb (length (readPattern s .rest)) 0
+
+abbrev pub patternPart : List ℕ → Part
+patternPart s = readPattern s .part

@@ -1,0 +1,41 @@
+-- When a call declines because of its pattern, in checking order.
+use mathlib.Core.Bool.{Bool, false, _||_, not}
+use mathlib.Core.List.{List, [], _∷_}
+use Prim.Native.Nat.{ℕ}
+use lib.Dec.{eqb, ltb}
+use lib.ListN.{length}
+use Rattle.basics.specs.Choice.{if_then_else_}
+use Rattle.letters.specs.Alphabet.{allLetters, someLetter}
+use Rattle.graph.specs.Graph.{Graph, noGraph}
+use Rattle.pattern.specs.Parts.{Item, Atom, holds}
+use Rattle.pattern.specs.Grammar.{isPattern, patternPart}
+use Rattle.pattern.specs.Positions.{atoms, places, patternGraph}
+
+-- "A range's first letter has a higher code than its last."
+abbrev pub someReversed : List Item → Bool
+someReversed [] = false
+someReversed (i ∷ is) = ltb (i .hi) (i .lo) || someReversed is
+
+abbrev pub anyReversed : List Atom → Bool
+anyReversed [] = false
+anyReversed (a ∷ al) = someReversed (a .items) || anyReversed al
+
+-- "A class holds no letter."
+abbrev pub anyEmpty : List Atom → Bool
+anyEmpty [] = false
+anyEmpty (a ∷ al) = not (someLetter (holds a)) || anyEmpty al
+
+-- refusals 3 to 8; 0 where none applies
+abbrev pub patternFault : List ℕ → ℕ
+patternFault s =
+    if ltb 512 (length s) then 3
+    else if not (allLetters s) then 4
+    else if not (isPattern s) then 5
+    else if anyReversed (atoms (patternPart s)) then 6
+    else if anyEmpty (atoms (patternPart s)) then 7
+    else if ltb 60 (places (patternPart s)) then 8
+    else 0
+
+-- "A pattern is accepted if no refusal from 3 to 8, in checking order, applies to it": the graph that it is built into, or none
+abbrev pub builtGraph : List ℕ → Graph
+builtGraph s = if eqb (patternFault s) 0 then patternGraph s else noGraph

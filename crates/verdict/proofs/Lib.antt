@@ -1,0 +1,11 @@
+pub mod Encode
+pub mod Steady
+pub mod Doubling
+pub mod Chains
+pub mod Pairs
+pub mod Reached
+pub mod Flags
+pub mod Parting
+pub mod Pivots
+pub mod Shows
+pub mod Bounds

@@ -1,0 +1,105 @@
+-- A pivot has two different loops over one text, and a position with two such loops is a pivot; `firstPivot` is the least of
+-- the pivots. Assumes nothing.
+use mathlib.Core.Path.{_≡_, sym, ap, ap₂, _∙_, subst}
+use mathlib.Core.Logic.{⊎-elim}
+use mathlib.Core.Bool.{Bool, true, false, _&&_}
+use mathlib.Core.List.{List}
+use Prim.Native.Nat.{ℕ, suc, _≤_, _<_}
+use native.Mathlib.Omega.{arith}
+use lib.Dec.{eqb}
+use lib.ListN.{length}
+use borrow.Author.Tests.{eqb-true, eq-eqb}
+use Rattle.basics.specs.Lists.{endOf}
+use Rattle.basics.proofs.Tests.{and-parts, and-of, by-test}
+use Rattle.basics.proofs.Folds.{least, list-first, list-none}
+use Rattle.letters.specs.Alphabet.{allLetters}
+use Rattle.graph.specs.Graph.{Graph, isPosition}
+use Rattle.graph.proofs.Walks.{Walk, position-of}
+use Rattle.graph.proofs.Trim.{Trim}
+use Rattle.verdict.specs.Evidence.{shown, longest}
+use Rattle.verdict.specs.Verdict.{isPivot, firstPivot}
+use Rattle.verdict.proofs.Parting.{Parting, parting, walks-same, walks-part}
+
+-- ---- the first pivot
+
+module _ (g : Graph) where
+  abbrev pivotAt : ℕ → Bool
+  pivotAt q = isPosition g q && isPivot g q
+
+  position-low : (q : ℕ) → isPosition g q ≡ true → q < suc (g .places)
+  position-low q h = let p = position-of g q h in omega arith
+
+  pub first-pivot : (firstPivot g ≡ 0 → ⊥) → (isPosition g (firstPivot g) ≡ true) × (isPivot g (firstPivot g) ≡ true) × ((q : ℕ) → isPosition g q ≡ true → q < firstPivot g → isPivot g q ≡ false)
+  first-pivot h =
+      ⊎-elim (λ none. absurd (h (list-none pivotAt (suc (g .places)) none)))
+      (λ r.
+      let t = r .0 in
+      let p = and-parts (isPosition g t) (isPivot g t) (r .2 .here) in
+      subst (λ (x : ℕ). (isPosition g x ≡ true) × (isPivot g x ≡ true) × ((q : ℕ) → isPosition g q ≡ true → q < x → isPivot g q ≡ false)) (sym (list-first pivotAt (suc (g .places)) t (r .1) (r .2)))
+      (p .0, p .1, λ q i l. ap (λ (b : Bool). b && isPivot g q) (sym i) ∙ r .2 .none q l))
+      (least pivotAt (suc (g .places)))
+
+  not-pivot : (q : ℕ) → (isPosition g q ≡ true → isPivot g q ≡ false) → pivotAt q ≡ false
+  not-pivot q h = by-test (isPosition g q) (λ i. ap₂ _&&_ i (h i)) (λ i. ap (λ (b : Bool). b && isPivot g q) i)
+
+  pub pivot-is-first : (q : ℕ) → isPosition g q ≡ true → isPivot g q ≡ true → ((j : ℕ) → isPosition g j ≡ true → j < q → isPivot g j ≡ false) → firstPivot g ≡ q
+  pivot-is-first q i h none = list-first pivotAt (suc (g .places)) q (position-low q i) (record { here = and-of (isPosition g q) (isPivot g q) i h; none = λ j l. not-pivot j (λ k. none j k l) })
+
+  pub pivot-none : ((q : ℕ) → isPosition g q ≡ true → isPivot g q ≡ false) → firstPivot g ≡ 0
+  pivot-none h = list-none pivotAt (suc (g .places)) (λ q l. not-pivot q (h q))
+
+  pub none-pivot : firstPivot g ≡ 0 → (q : ℕ) → isPosition g q ≡ true → isPivot g q ≡ false
+  none-pivot h q i =
+      ⊎-elim (λ none. ap (λ (b : Bool). b && isPivot g q) (sym i) ∙ none q (position-low q i))
+      (λ r.
+      let e = list-first pivotAt (suc (g .places)) (r .0) (r .1) (r .2) in
+      let p = position-of g (r .0) (and-parts (isPosition g (r .0)) (isPivot g (r .0)) (r .2 .here) .0) in
+      absurd (omega arith))
+      (least pivotAt (suc (g .places)))
+
+-- ---- its loops
+
+-- two different loops at q over the text shown for them
+pub record Loops (g : Graph) (q : ℕ) : Type 0 where
+  pub one : List ℕ
+  pub other : List ℕ
+  pub goes-one : Walk g q (shown g one other) one
+  pub goes-other : Walk g q (shown g one other) other
+  pub one-back : endOf q one ≡ q
+  pub other-back : endOf q other ≡ q
+  pub differ : one ≡ other → ⊥
+  pub letters : allLetters (shown g one other) ≡ true
+  pub some : 1 ≤ length (shown g one other)
+  pub few : length (shown g one other) ≤ longest g
+
+abbrev pub backTo : ℕ → ℕ → ℕ → Bool
+backTo q c d = eqb c q && eqb d q
+
+both-back : (q c d : ℕ) → c ≡ q → d ≡ q → backTo q c d ≡ true
+both-back q c d e f = and-of (eqb c q) (eqb d q) (eq-eqb c q e) (eq-eqb d q f)
+
+pub parting-loops : (g : Graph) (q : ℕ) → Parting g q (backTo q) → Loops g q
+parting-loops g q p =
+    let b = and-parts (eqb (endOf q (p .one)) q) (eqb (endOf q (p .other)) q) (p .passes) in
+    record {
+      one = p .one;
+      other = p .other;
+      goes-one = p .goes-one;
+      goes-other = p .goes-other;
+      one-back = eqb-true (endOf q (p .one)) q (b .0);
+      other-back = eqb-true (endOf q (p .other)) q (b .1);
+      differ = p .differ;
+      letters = p .letters;
+      some = p .some;
+      few = p .few;
+    }
+
+module _ (g : Graph) (trim : Trim g) where
+  pub pivot-loops : (q : ℕ) → isPivot g q ≡ true → Loops g q
+  pivot-loops q h = parting-loops g q (parting g trim q (backTo q) h)
+
+  pub loops-pivot : (q : ℕ) (s c d : List ℕ) → Walk g q s c → Walk g q s d → endOf q c ≡ q → endOf q d ≡ q → (c ≡ d → ⊥) → isPivot g q ≡ true
+  loops-pivot q s c d v w e f = walks-part g trim q (backTo q) s c d v w (both-back q (endOf q c) (endOf q d) e f)
+
+  pub no-pivot : firstPivot g ≡ 0 → (q : ℕ) → isPosition g q ≡ true → (s c d : List ℕ) → Walk g q s c → Walk g q s d → endOf q c ≡ q → endOf q d ≡ q → c ≡ d
+  no-pivot h q i s c d v w e f = walks-same g trim q (backTo q) (none-pivot g h q i) s c d v w (both-back q (endOf q c) (endOf q d) e f)

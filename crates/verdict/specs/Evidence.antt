@@ -1,0 +1,61 @@
+-- The texts that show a verdict. Which texts they are is free beyond these lines.
+use mathlib.Core.Path.{_≡_}
+use mathlib.Core.Bool.{true}
+use mathlib.Core.List.{List, [], _∷_, _++_}
+use Prim.Native.Nat.{ℕ, zero, suc, _+_, _*_, _≤_}
+use lib.ListN.{length}
+use Rattle.basics.specs.Lists.{endOf}
+use Rattle.letters.specs.Alphabet.{allLetters}
+use Rattle.graph.specs.Graph.{Graph}
+use Rattle.graph.specs.Readings.{isReading}
+use Rattle.verdict.specs.Pairs.{letterShown}
+use Rattle.verdict.specs.Verdict.{firstPivot}
+
+-- "Where two paths of positions run side by side, the letter shown for a step is the lowest letter that both sets hold; along one
+-- path, as in x and z, the lowest of its set."
+abbrev pub shown : Graph → List ℕ → List ℕ → List ℕ
+shown g [] u = []
+shown g (a ∷ r) [] = []
+shown g (a ∷ r) (b ∷ u) = letterShown g a b ∷ shown g r u
+
+-- y written k times
+abbrev pub times : ℕ → List ℕ → List ℕ
+times zero y = []
+times (suc k) y = y ++ times k y
+
+-- the most letters of a steady text, and of y: "At most p² + p letters"
+abbrev pub longest : Graph → ℕ
+longest g = g .places * g .places + g .places
+
+-- a steady verdict shows a text with two different readings
+pub record ShowsSteady (g : Graph) (s : List ℕ) : Type 0 where
+  pub letters : allLetters s ≡ true
+  pub short : length s ≤ longest g
+  pub one : List ℕ
+  pub other : List ℕ
+  pub reads-one : isReading g s one ≡ true
+  pub reads-other : isReading g s other ≡ true
+  pub differ : one ≡ other → ⊥
+  pub lowest : s ≡ shown g one other
+
+-- a runaway verdict shows x, y, z: a way to the first pivot, two different loops there over one text, and a way to an end
+pub record ShowsRunaway (g : Graph) (x y z : List ℕ) : Type 0 where
+  pub letters : allLetters (x ++ (y ++ z)) ≡ true
+  pub some-x : 1 ≤ length x
+  pub short-x : length x ≤ g .places
+  pub some-y : 1 ≤ length y
+  pub short-y : length y ≤ longest g
+  pub short-z : length z ≤ g .places
+  pub way-in : List ℕ
+  pub loop : List ℕ
+  pub other : List ℕ
+  pub way-out : List ℕ
+  pub reads-loop : isReading g (x ++ (y ++ z)) (way-in ++ (loop ++ way-out)) ≡ true
+  pub reads-other : isReading g (x ++ (y ++ z)) (way-in ++ (other ++ way-out)) ≡ true
+  pub differ : loop ≡ other → ⊥
+  pub first : endOf 0 way-in ≡ firstPivot g
+  pub back : endOf 0 loop ≡ firstPivot g
+  pub other-back : endOf 0 other ≡ firstPivot g
+  pub lowest-x : x ≡ shown g way-in way-in
+  pub lowest-y : y ≡ shown g loop other
+  pub lowest-z : z ≡ shown g way-out way-out

@@ -1,0 +1,41 @@
+-- Single, steady, runaway.
+use mathlib.Core.Bool.{Bool, _&&_, not}
+use mathlib.Core.List.{List}
+use Prim.Native.Nat.{ℕ, suc, _*_}
+use lib.Dec.{eqb}
+use lib.ListN.{getD}
+use Rattle.basics.specs.Choice.{if_then_else_}
+use Rattle.basics.specs.Folds.{listIf}
+use Rattle.graph.specs.Graph.{Graph, isPosition}
+use Rattle.verdict.specs.Pairs.{Pair, pair, somePair, reached}
+
+-- p² letters lead to every pair that any number of them leads to
+abbrev pub reaches : Graph → Pair → ℕ → ℕ → Bool
+reaches g t c d = reached g (g .places * g .places) t c d
+
+-- two paths from state u over one text part, and come from there to a pair that passes a test
+abbrev pub partsTo : Graph → ℕ → (ℕ → ℕ → Bool) → Bool
+partsTo g u goal = somePair g (λ a b. (not (eqb a b) && reaches g (pair u u) a b) && somePair g (λ c d. reaches g (pair a b) c d && goal c d))
+
+-- some answer has two readings: paths from before any letter part, and both can end (the pattern is ambiguous)
+abbrev pub ambiguous : Graph → Bool
+ambiguous g = partsTo g 0 (λ c d. g .last c && g .last d)
+
+-- "a pivot: a position with two different loops back to itself over the same text"
+abbrev pub isPivot : Graph → ℕ → Bool
+isPivot g q = partsTo g q (λ c d. eqb c q && eqb d q)
+
+-- the pivots "in rising order", and the first of them, 0 where there is none
+abbrev pub pivots : Graph → List ℕ
+pivots g = listIf (λ q. isPosition g q && isPivot g q) (suc (g .places))
+
+abbrev pub firstPivot : Graph → ℕ
+firstPivot g = getD (pivots g) 0 0
+
+-- "0 single, 1 steady, 2 runaway": in the field's terms unambiguous; ambiguous with at most polynomially many readings;
+-- exponentially ambiguous. "A runaway pattern has a pivot."
+abbrev pub verdict : Graph → ℕ
+verdict g =
+    if not (eqb (firstPivot g) 0) then 2
+    else if ambiguous g then 1
+    else 0
