@@ -4,12 +4,13 @@ use mathlib.Core.Path.{_≡_, refl, sym, ap, ap₂, _∙_, subst}
 use mathlib.Core.Logic.{_⊎_, inl, inr, ⊎-elim}
 use mathlib.Core.Bool.{Bool, true, false, not, _&&_, _||_, or-assoc, or-false, and-true, and-false, false≢true}
 use mathlib.Core.List.{List, [], _∷_, _++_, append-nil, append-assoc}
-use Prim.Native.Nat.{ℕ, zero, suc, _+_, _≤_, _<_, zero-le}
+use Prim.Native.Nat.{ℕ, zero, suc, _+_, _≤_, _<_, max}
 use native.Mathlib.Nat.{not-suc-le-zero, add-assoc, zero-add, add-zero, le-refl}
 use native.Mathlib.Omega.{arith}
-use lib.Dec.{eqb, leb, leb·zero}
+use lib.Dec.{eqb, leb}
 use lib.ListN.{getD}
 use borrow.Author.Tests.{eq-eqb, ne-eqb, eqb-true, leb-true, leb-false}
+use Rattle.basics.specs.Choice.{if_then_else_}
 use Rattle.basics.specs.Folds.{foldIf, sumIf, anyIf, listIf, mostIf, larger, Less, LeastOf}
 use Rattle.basics.proofs.Tests.{by-test, by-equal, if-yes, if-no, if-either, or-left, or-right, or-cases, and-parts, and-of, same-test}
 
@@ -135,19 +136,21 @@ le-larger a b = if-either (λ (x : ℕ). (a ≤ x) × (b ≤ x)) b a (leb a b) (
 pub larger-le : (a b k : ℕ) → a ≤ k → b ≤ k → larger a b ≤ k
 larger-le a b k p q = if-either (λ (x : ℕ). x ≤ k) b a (leb a b) (λ e. q) (λ e. p)
 
+-- what `omega` reads
+pub larger-max : (a b : ℕ) → larger a b ≡ max a b
+larger-max a b = let p = le-larger a b in omega (arith, larger-le a b (max a b) (omega arith) (omega arith))
+
+pub larger-none : (a : ℕ) → larger a 0 ≡ a
+larger-none a = simp larger-max (omega arith)
+
+pub larger-comm : (a b : ℕ) → larger a b ≡ larger b a
+larger-comm a b = simp larger-max (omega arith)
+
 pub larger-assoc : (a b c : ℕ) → larger (larger a b) c ≡ larger a (larger b c)
-larger-assoc a b c =
-    let x = larger a b in
-    let y = larger b c in
-    let p = le-larger a b in
-    let q = le-larger x c in
-    let r = le-larger b c in
-    let s = le-larger a y in
-    omega (arith, larger-le x c (larger a y) (larger-le a b (larger a y) (s .0) (omega arith)) (omega arith), larger-le a y (larger x c) (omega arith) (larger-le b c (larger x c) (omega arith) (q .1)))
+larger-assoc a b c = simp larger-max (omega arith)
 
 pub most-least : (p q : ℕ → Bool) (t : ℕ) → Less p t q → p t ≡ true → ((j : ℕ) → j < t → p j ≡ false) → (f : ℕ → ℕ) (n : ℕ) → t < n → mostIf p f n ≡ larger (f t) (mostIf q f n)
-most-least =
-    fold-least 0 larger (λ a. if-yes a 0 (leb 0 a) (leb·zero a)) (λ a. omega (arith, le-larger a 0, larger-le a 0 a (le-refl a) zero-le)) larger-assoc
+most-least = fold-least 0 larger (λ a. larger-comm 0 a ∙ larger-none a) larger-none larger-assoc
 
 -- no value is above it
 pub most-above : (p : ℕ → Bool) (f : ℕ → ℕ) (n i : ℕ) → i < n → p i ≡ true → f i ≤ mostIf p f n
@@ -191,3 +194,97 @@ any-one p f n j l =
     (λ e.
     let h = and-parts (p j) (f j) e in
     any-true p (λ i. f i && eqb i j) n j (l (h .0)) (h .0) (and-of (f j) (eqb j j) (h .1) (eq-eqb j j refl)))
+
+-- ---- a fold over fewer numbers, and one over pairs in either order
+
+module _ {A : Type 0} (none : A) (join : A → A → A) where
+  -- no member from k on
+  pub fold-longer : (p : ℕ → Bool) (f : ℕ → A) (k n : ℕ) → k ≤ n → ((i : ℕ) → k ≤ i → p i ≡ false) → foldIf none join p f n ≡ foldIf none join p f k
+  fold-longer p f k zero l h = ap (foldIf none join p f) (omega arith)
+  fold-longer p f k (suc n) l h =
+      let r = fold-longer p f k n in
+      by-equal (suc n) k (λ z. ap (foldIf none join p f) z) (λ d. fold-no none join p f n (h n (omega arith)) ∙ r (omega arith) h)
+
+  module _ (right : (a : A) → join a none ≡ a) where
+    -- the members of p that fail q have nothing to join
+    pub fold-where : (p q r : ℕ → Bool) (f g : ℕ → A) → ((i : ℕ) → r i ≡ (p i && q i)) → ((i : ℕ) → r i ≡ true → f i ≡ g i) → ((i : ℕ) → q i ≡ false → f i ≡ none)
+        → (n : ℕ) → foldIf none join p f n ≡ foldIf none join r g n
+    fold-where p q r f g e same off zero = fold-zero none join p f ∙ sym (fold-zero none join r g)
+    fold-where p q r f g e same off (suc n) =
+        let ih = fold-where p q r f g e same off n in
+        by-test (p n)
+        (λ x.
+        by-test (q n)
+        (λ y. let z = e n ∙ and-of (p n) (q n) x y in fold-yes none join p f n x ∙ ap₂ join ih (same n z) ∙ sym (fold-yes none join r g n z))
+        (λ y.
+        fold-yes none join p f n x ∙ ap₂ join ih (off n y) ∙ right (foldIf none join r g n)
+        ∙ sym (fold-no none join r g n (e n ∙ ap (λ (b : Bool). p n && b) y ∙ and-false (p n)))))
+        (λ x. fold-no none join p f n x ∙ ih ∙ sym (fold-no none join r g n (e n ∙ ap (λ (b : Bool). b && q n) x)))
+
+    module _ (comm : (a b : A) → join a b ≡ join b a) (assoc : (a b c : A) → join (join a b) c ≡ join a (join b c)) where
+      -- a second value, for the members that pass q
+      fold-both : (p q : ℕ → Bool) (f g : ℕ → A) (n : ℕ)
+          → foldIf none join p (λ i. if q i then join (f i) (g i) else f i) n ≡ join (foldIf none join p f n) (foldIf none join (λ i. p i && q i) g n)
+      fold-both p q f g zero =
+          fold-zero none join p (λ i. if q i then join (f i) (g i) else f i)
+          ∙ sym (ap₂ join (fold-zero none join p f) (fold-zero none join (λ i. p i && q i) g) ∙ right none)
+      fold-both p q f g (suc n) =
+          let ih = fold-both p q f g n in
+          by-test (p n)
+          (λ x.
+          by-test (q n)
+          (λ y.
+          fold-yes none join p h n x ∙ ap₂ join ih (if-yes (join (f n) (g n)) (f n) (q n) y) ∙ middle a b (f n) (g n)
+          ∙ sym (ap₂ join (fold-yes none join p f n x) (fold-yes none join r g n (and-of (p n) (q n) x y))))
+          (λ y.
+          fold-yes none join p h n x ∙ ap₂ join ih (if-no (join (f n) (g n)) (f n) (q n) y) ∙ assoc a b (f n) ∙ ap (join a) (comm b (f n)) ∙ sym (assoc a (f n) b)
+          ∙ sym (ap₂ join (fold-yes none join p f n x) (fold-no none join r g n (ap (λ (t : Bool). p n && t) y ∙ and-false (p n))))))
+          (λ x. fold-no none join p h n x ∙ ih ∙ sym (ap₂ join (fold-no none join p f n x) (fold-no none join r g n (ap (λ (t : Bool). t && q n) x))))
+        where
+          r : ℕ → Bool
+          r i = p i && q i
+
+          h : ℕ → A
+          h i = if q i then join (f i) (g i) else f i
+
+          a : A
+          a = foldIf none join p f n
+
+          b : A
+          b = foldIf none join r g n
+
+          middle : (a b x y : A) → join (join a b) (join x y) ≡ join (join a x) (join b y)
+          middle a b x y =
+              assoc a b (join x y) ∙ ap (join a) (sym (assoc b x y) ∙ ap (λ (z : A). join z y) (comm b x) ∙ assoc x b y) ∙ sym (assoc a x (join b y))
+
+      -- the pairs by their first numbers, or by their second
+      pub fold-swap : (p q : ℕ → Bool) (ps qs : ℕ → ℕ → Bool) → ((u i : ℕ) → (p u && ps u i) ≡ (q i && qs i u)) → (f : ℕ → ℕ → A) (n k : ℕ)
+          → foldIf none join p (λ u. foldIf none join (ps u) (f u) k) n ≡ foldIf none join q (λ i. foldIf none join (qs i) (λ u. f u i) n) k
+      fold-swap p q ps qs e f zero k =
+          fold-zero none join p (λ u. foldIf none join (ps u) (f u) k)
+          ∙ sym (fold-keeps none join (λ (a : A). a ≡ none) refl (λ a b x y. ap₂ join x y ∙ right none) q (λ i. foldIf none join (qs i) (λ u. f u i) 0) k
+          (λ i l y. fold-zero none join (qs i) (λ u. f u i)))
+      fold-swap p q ps qs e f (suc n) k =
+          let ih = fold-swap p q ps qs e f n k in
+          by-test (p n)
+          (λ x.
+          fold-yes none join p left n x
+          ∙ ap₂ join ih (fold-same none join (ps n) (λ i. q i && qs i n) (f n) (f n) k (λ i l. sym (ap (λ (t : Bool). t && ps n i) x) ∙ e n i) (λ i l y. refl)) ∙ sym more)
+          (λ x.
+          fold-no none join p left n x ∙ ih ∙ sym (right (foldIf none join q (right′ n) k))
+          ∙ ap (join (foldIf none join q (right′ n) k)) (sym (fold-none none join (λ i. q i && qs i n) (f n) k (λ i l. sym (e n i) ∙ ap (λ (t : Bool). t && ps n i) x)))
+          ∙ sym more)
+        where
+          left : ℕ → A
+          left u = foldIf none join (ps u) (f u) k
+
+          right′ : ℕ → ℕ → A
+          right′ n i = foldIf none join (qs i) (λ u. f u i) n
+
+          more : foldIf none join q (right′ (suc n)) k ≡ join (foldIf none join q (right′ n) k) (foldIf none join (λ i. q i && qs i n) (f n) k)
+          more = fold-same none join q q (right′ (suc n)) (λ i. if qs i n then join (right′ n i) (f n i) else right′ n i) k (λ i l. refl) (λ i l y. turn i) ∙ fold-both q (λ i. qs i n) (right′ n) (f n) k
+            where
+              turn : (i : ℕ) → right′ (suc n) i ≡ (if qs i n then join (right′ n i) (f n i) else right′ n i)
+              turn i =
+                  if-either (λ (a : A). right′ (suc n) i ≡ a) (join (right′ n i) (f n i)) (right′ n i) (qs i n) (fold-yes none join (qs i) (λ u. f u i) n)
+                  (fold-no none join (qs i) (λ u. f u i) n)

@@ -2,14 +2,18 @@
 -- A list of different entries that all stand in another list is no longer than that one (take each off in turn); the
 -- pigeonhole law is the case of the numbers below n. Assumes nothing.
 use mathlib.Core.Path.{_≡_, refl, sym, ap, _∙_, subst}
-use mathlib.Core.Logic.{inl, inr}
+use mathlib.Core.Logic.{inl, inr, ⊎-elim}
+use mathlib.Core.Bool.{true, false≢true}
 use mathlib.Core.List.{List, [], _∷_, _++_, map}
-use Prim.Native.Nat.{ℕ, zero, suc, _≤_, _<_, zero-le}
+use Prim.Native.Nat.{ℕ, zero, suc, _≤_, _<_, zero-le, suc-le-suc}
 use native.Mathlib.Nat.{not-suc-le-zero, le-of-suc-le-suc}
 use native.Mathlib.Omega.{arith}
-use lib.ListN.{length, getD, take, length-map}
+use lib.Dec.{eqb}
+use lib.ListN.{length, getD, take, set, replicate, length-map}
+use borrow.Author.Tests.{eqb-true}
+use Rattle.basics.specs.Bytes.{isIn}
 use Rattle.basics.specs.Lists.{Each, Apart, In, endOf}
-use Rattle.basics.proofs.Tests.{by-equal}
+use Rattle.basics.proofs.Tests.{by-equal, or-cases}
 
 module _ {A : Type 0} where
   pub each-map : (P Q : A → Type 0) → ((x : A) → P x → Q x) → (xs : List A) → Each P xs → Each Q xs
@@ -53,6 +57,16 @@ module _ {A : Type 0} where
   end-take a d (suc k) [] l = absurd (not-suc-le-zero l)
   end-take a d (suc k) (x ∷ xs) l = end-take x d k xs (le-of-suc-le-suc l)
 
+  -- each entry, and that entries differ, by their indices
+  pub each-at : (P : A → Type 0) (d : A) (xs : List A) → ((i : ℕ) → i < length xs → P (getD xs i d)) → Each P xs
+  each-at P d [] h = tt
+  each-at P d (x ∷ xs) h = (h 0 (suc-le-suc zero-le), each-at P d xs (λ i l. h (suc i) (suc-le-suc l)))
+
+  pub apart-at : (d : A) (xs : List A) → ((i j : ℕ) → i < j → j < length xs → getD xs i d ≡ getD xs j d → ⊥) → Apart xs
+  apart-at d [] h = tt
+  apart-at d (x ∷ xs) h =
+      (each-at (λ (y : A). x ≡ y → ⊥) d xs (λ i l. h 0 (suc i) (suc-le-suc zero-le) (suc-le-suc l)), apart-at d xs (λ i j l m. h (suc i) (suc j) (suc-le-suc l) (suc-le-suc m)))
+
   -- ---- no longer than what holds it
 
   abbrev remove : (a : A) (xs : List A) → In a xs → List A
@@ -83,7 +97,42 @@ module _ {A : Type 0} where
       let e = remove-length r xs (h .0) in
       omega arith
 
+-- what holds of each entry holds of a number that is one of them by the test
+pub is-in-each : (P : ℕ → Type 0) (xs : List ℕ) (a : ℕ) → Each P xs → isIn a xs ≡ true → P a
+is-in-each P [] a h e = absurd (false≢true e)
+is-in-each P (x ∷ xs) a h e =
+    let rest = is-in-each P xs a (h .1) in
+    ⊎-elim (λ z. subst P (sym (eqb-true a x z)) (h .0)) rest (or-cases (eqb a x) (isIn a xs) e)
+
+-- ---- entries by their number
+
+module _ {A : Type 0} where
+  -- an entry of a list of equal entries, or past its end
+  pub alike : (P : A → Type 0) (n : ℕ) (a d : A) → P a → P d → (i : ℕ) → P (getD (replicate n a) i d)
+  alike P zero a d p q i = q
+  alike P (suc n) a d p q zero = p
+  alike P (suc n) a d p q (suc i) = alike P n a d p q i
+
+  -- an entry more at the end leaves all others
+  pub last-other : (xs : List A) (a d : A) (i : ℕ) → (i ≡ length xs → ⊥) → getD (xs ++ (a ∷ [])) i d ≡ getD xs i d
+  last-other [] a d zero h = absurd (h refl)
+  last-other [] a d (suc i) h = refl
+  last-other (x ∷ xs) a d zero h = refl
+  last-other (x ∷ xs) a d (suc i) h = last-other xs a d i (λ e. h (ap suc e))
+
+  -- a store keeps what holds of every entry
+  pub set-keeps : (P : A → Type 0) (xs : List A) (i : ℕ) (a d : A) → P a → ((j : ℕ) → P (getD xs j d)) → (j : ℕ) → P (getD (set xs i a) j d)
+  set-keeps P [] i a d p h j = h j
+  set-keeps P (x ∷ xs) zero a d p h zero = p
+  set-keeps P (x ∷ xs) zero a d p h (suc j) = h (suc j)
+  set-keeps P (x ∷ xs) (suc i) a d p h zero = h 0
+  set-keeps P (x ∷ xs) (suc i) a d p h (suc j) = set-keeps P xs i a d p (λ k. h (suc k)) j
+
 -- ---- through a function
+
+-- `search (needs, length-mapped)` finds the length of an array of structs by value
+pub length-mapped : (A B : Type 0) (f : A → B) (xs : List A) (n : ℕ) → length (map f xs) ≡ n → length xs ≡ n
+length-mapped A B f xs n h = sym (length-map xs f) ∙ h
 
 module _ {A B : Type 0} (f : A → B) where
   pub map-each : (P : B → Type 0) (xs : List A) → Each (λ (x : A). P (f x)) xs → Each P (map f xs)

@@ -18,6 +18,11 @@ pub and-of : (a b : Bool) → a ≡ true → b ≡ true → (a && b) ≡ true
 and-of true b p q = q
 and-of false b p q = p
 
+-- what follows a test matters only where the test passes
+pub and-when : (a b c : Bool) → (a ≡ true → b ≡ c) → (a && b) ≡ (a && c)
+and-when true b c e = e refl
+and-when false b c e = refl
+
 pub or-cases : (a b : Bool) → (a || b) ≡ true → (a ≡ true) ⊎ (b ≡ true)
 or-cases true b e = inl refl
 or-cases false b e = inr e

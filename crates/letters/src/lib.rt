@@ -1,5 +1,5 @@
-// The letters, and sets of them. Every contract says of each code c, letter or not, whether the result has it, and only
-// the lowest letter and the rest ask that the set is not empty.
+// The letters, and sets of them. The contract of a set says of each code c, letter or not, whether the set has it, and
+// only the lowest letter and the rest ask that the set is not empty.
 ghost use mathlib.Core.Path.{_≡_};
 ghost use mathlib.Core.Bool.{true, false, not, _&&_, _||_};
 ghost use Prim.Native.Nat.{ℕ, _<_, _≤_, _+_};
@@ -8,6 +8,13 @@ ghost use Rattle.basics.specs.Folds.{Less};
 ghost use Rattle.bits.specs.Bits.{hasBit};
 ghost use Rattle.letters.specs.Alphabet.{isLetter};
 ghost use Rattle.letters.specs.LetterSet.{hasLetter, Some, LeastLetter, weight};
+
+// Is the code a letter.
+pub fn is_letter(code: u8) -> bool
+    ensures { λ r. ⌜ r ≡ isLetter code ⌝ }
+{
+    (32 <= code) & (code <= 126)
+}
 
 // The codes 32 to 95 are bits 0 to 63 of `low`, and 96 to 159 those of `high`, of which only 96 to 126 are letters: the
 // functions here that make a set leave the others out. Nothing outside this crate reads the two fields.

@@ -1,4 +1,5 @@
--- Proofs about patterns: links, runs, texts and readings; what acceptance says; the specimens.
+-- Proofs about patterns: positions, links, runs, texts and readings; what acceptance says; the specimens.
+pub mod Own
 pub mod Link
 pub mod Within
 pub mod Runs
@@ -6,4 +7,5 @@ pub mod RunTexts
 pub mod Texts
 pub mod Accepted
 pub mod Useful
+pub mod Bounds
 pub mod Specimens

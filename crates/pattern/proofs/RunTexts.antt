@@ -10,7 +10,8 @@ use Rattle.pattern.specs.Parts.{Atom, holds, Repeat, loops, Part, letter
 use Rattle.pattern.specs.Positions.{places}
 use Rattle.pattern.specs.Texts.{Text, one, inLeft, inRight, both, never, once, more}
 use Rattle.pattern.proofs.Link.{Link, isPlace}
-use Rattle.pattern.proofs.Within.{Inside, Within, within, not-left, not-right, Agree, agree-one, agree-left, agree-right}
+use Rattle.pattern.proofs.Own.{Own}
+use Rattle.pattern.proofs.Within.{Within, within, not-left, not-right, Agree, agree-one, agree-left, agree-right}
 use Rattle.pattern.proofs.Runs.{Run, end, step, run-keep, Holds}
 
 module _ (at : ℕ → Atom) where
@@ -19,23 +20,23 @@ module _ (at : ℕ → Atom) where
   Runs n p u s = Run (Holds at) n p u s 0
 
   -- a run of a whole that is at a position of a part, from where the whole's links are the part's, is one of the part
-  stays : (l : ℕ) (w : Part) (n : ℕ) (p : Part) → ((u v : ℕ) → Inside n (places p) u → Link l w u v → Link n p u v)
-      → {x : ℕ} {s : List ℕ} → Inside n (places p) (suc x) → Runs l w (suc x) s → Runs n p (suc x) s
-  stays l w n p f h r = run-keep (Inside n (places p)) f (λ u y i e. within p n u (suc y) (f u (suc y) i e) .1) h r
+  stays : (l : ℕ) (w : Part) (n : ℕ) (p : Part) → ((u v : ℕ) → Own n p u → Link l w u v → Link n p u v)
+      → {x : ℕ} {s : List ℕ} → Own n p (suc x) → Runs l w (suc x) s → Runs n p (suc x) s
+  stays l w n p f h r = run-keep (Own n p) f (λ u y i e. within p n u (suc y) (f u (suc y) i e) .1) h r
 
   -- ---- branches
 
-  stay-left : (n : ℕ) (p q : Part) (u v : ℕ) → Inside n (places p) u → Link n (either p q) u v → Link n p u v
+  stay-left : (n : ℕ) (p q : Part) (u v : ℕ) → Own n p u → Link n (either p q) u v → Link n p u v
   stay-left n p q u v h (inl e) = e
   stay-left n p q u v h (inr e) = absurd (not-right n p q u v h e)
 
-  stay-right : (n : ℕ) (p q : Part) (u v : ℕ) → Inside (n + places p) (places q) u → Link n (either p q) u v → Link (n + places p) q u v
+  stay-right : (n : ℕ) (p q : Part) (u v : ℕ) → Own (n + places p) q u → Link n (either p q) u v → Link (n + places p) q u v
   stay-right n p q u v h (inl e) = absurd (not-left n p q u v h e)
   stay-right n p q u v h (inr e) = e
 
   -- ---- one part then another
 
-  keep-right : (n : ℕ) (p q : Part) (u v : ℕ) → Inside (n + places p) (places q) u → Link n (joined p q) u v → Link (n + places p) q u v
+  keep-right : (n : ℕ) (p q : Part) (u v : ℕ) → Own (n + places p) q u → Link n (joined p q) u v → Link (n + places p) q u v
   keep-right n p q u v h (inl e) = absurd (not-left n p q u v h (e .1))
   keep-right n p q u v h (inr (inl e)) = e .1
   keep-right n p q u v h (inr (inr e)) = absurd (not-left n p q u 0 h (e .0))
@@ -46,11 +47,11 @@ module _ (at : ℕ → Atom) where
   two-step : {n : ℕ} {p q : Part} {u b x : ℕ} {s : List ℕ} → Link n p u (suc x) → Holds at (suc x) b → Two n p q (suc x) s → Two n p q u (b ∷ s)
   two-step {x = x} e d (two r t) = two (step x e d r) t
 
-  not-yet : (n : ℕ) (p q : Part) (u v : ℕ) → Within n (places p) u → (isPlace u ≡ true) × Link (n + places p) q u v → ⊥
+  not-yet : (n : ℕ) (p q : Part) (u v : ℕ) → Within n p u → (isPlace u ≡ true) × Link (n + places p) q u v → ⊥
   not-yet n p q zero v h e = false≢true (e .0)
   not-yet n p q (suc x) v h e = not-right n p q (suc x) v h (e .1)
 
-  split : (n : ℕ) (p q : Part) (u : ℕ) {s : List ℕ} → Within n (places p) u → Runs n (joined p q) u s → Two n p q u s
+  split : (n : ℕ) (p q : Part) (u : ℕ) {s : List ℕ} → Within n p u → Runs n (joined p q) u s → Two n p q u s
   split n p q u h (end (inl e)) = absurd (false≢true (e .0))
   split n p q u h (end (inr (inl e))) = absurd (not-yet n p q u 0 h e)
   split n p q u h (end (inr (inr e))) = two (end (e .0)) (end (e .1))

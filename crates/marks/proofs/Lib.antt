@@ -1,0 +1,4 @@
+pub mod Values
+pub mod Onward
+pub mod Columns
+pub mod Fills

@@ -1,0 +1,51 @@
+-- The two stores are of what `gather` gives. Assumes nothing.
+use mathlib.Core.Path.{ap, _∙_}
+use Prim.Native.Nat.{ℕ, _+_, _%_, _^_}
+use lib.ListN.{set}
+use borrow.Author.Needs.{needs}
+use Rattle.marks.proofs.fill.Statement.{statement}
+use Rattle.marks.proofs.fill.Tie as tie
+
+gather-requires : tie.Need-gather-requires
+gather-requires c κs = search needs
+
+mul-counts : tie.Need-mul-counts
+mul-counts c = search needs
+
+slice-write-counts : tie.Need-slice-write-counts
+slice-write-counts c = search needs
+
+wrapping-add-u32-requires : tie.Need-wrapping-add-u32-requires
+wrapping-add-u32-requires c κs = search needs
+
+mul-best : tie.Need-mul-best
+mul-best c = search needs
+
+slice-write-best : tie.Need-slice-write-best
+slice-write-best c = search needs
+
+same-length : tie.Need-same-length
+same-length c = search needs
+
+same-length-2 : tie.Need-same-length-2
+same-length-2 c = search needs
+
+returns : tie.Need-returns
+returns c =
+    let a = c .before .before .before .before .before .before .args in
+    let g = c .before .gather .ensures in
+    (ap (set (a .counts .now) (a .at)) (g .0), ap (set (a .best .now) (a .at)) (c .wrapping-add-u32 .ensures ∙ ap (λ (x : ℕ). (x + a .credit) % 2 ^ 32) (g .1)))
+
+pub fill-spec : {M : Type 1} → statement M
+fill-spec =
+    tie.close
+    (tie.spec
+    gather-requires
+    mul-counts
+    slice-write-counts
+    wrapping-add-u32-requires
+    mul-best
+    slice-write-best
+    same-length
+    same-length-2
+    returns)

@@ -1,0 +1,56 @@
+-- The tables show the pattern's graph, and what holds of the one holds of the other. Assumes nothing.
+use mathlib.Core.Path.{sym, subst}
+use Prim.Native.Nat.{ℕ}
+use native.Mathlib.Omega.{arith}
+use mir.Val.{Fits}
+use mir.Syntax.{w64}
+use lib.ListN.{getD}
+use Rattle.graph.specs.Graph.{Graph, Bounded}
+use Rattle.marks.specs.Rows.{Answered}
+use Rattle.marks.proofs.Columns.{follow-low, holders-low, tables-show}
+use borrow.Author.Needs.{needs}
+use Rattle.marks.proofs.mark.Statement.{statement}
+use Rattle.marks.proofs.mark.Tie as tie
+
+states-before-requires : tie.Need-states-before-requires
+states-before-requires c κs u =
+    let b = c .before .before .before .args .t1 in
+    let f : Fits w64 (getD (b .follow) u 0) = search needs in
+    follow-low b (c .before .before .before .pre .0) u (f .fits)
+
+holders-of-requires : tie.Need-holders-of-requires
+holders-of-requires c κs = search needs
+
+slice-aggregate-run : tie.Need-slice-aggregate-run
+slice-aggregate-run c = search needs
+
+slice-aggregate-run-2 : tie.Need-slice-aggregate-run-2
+slice-aggregate-run-2 c = search needs
+
+run-requires : tie.Need-run-requires
+run-requires c κs =
+    let s = c .before .before .before .before .before .before .before .before .before .before .before .before in
+    let holders = c .before .before .before .before .before .before .holders-of in
+    let fits : (x : ℕ) → Fits w64 (getD (holders .result) x 0) = λ x. search needs in
+    (omega arith, omega arith, s .pre .1, λ x. holders-low (s .args .t1) (s .pre .0) (holders .result) (holders .ensures) x (fits x .fits))
+
+returns : tie.Need-returns
+returns c =
+    let s = c .before .before .before .before .before .before .before .before .before .before .before .before .before .before .before in
+    let b = s .args .t1 in
+    let r = c .before .before .run in
+    let holders = c .before .before .before .before .before .before .before .before .before .holders-of in
+    let before = c .before .before .before .before .before .before .before .before .before .before .before .states-before in
+    let same = tables-show b (s .pre .0) (holders .result) (holders .ensures) (before .result) (before .ensures) in
+    subst (λ (g : Graph). Answered g (s .args .answer .now) (r .result .count) (r .result .mark)) same (r .ensures (b .places) (subst Bounded (sym same) (s .pre .0)))
+
+pub mark-spec : {M : Type 1} → statement M
+mark-spec =
+    tie.close
+    (tie.spec
+    states-before-requires
+    holders-of-requires
+    slice-aggregate-run
+    slice-aggregate-run-2
+    run-requires
+    returns)

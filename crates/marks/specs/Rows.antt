@@ -1,0 +1,68 @@
+-- Rows over the states, in memory that may hold anything else. A row is a set of possible states and, from an offset on, 61 counts
+-- and 61 credits, of which only those of possible states mean anything. What a row says is said of every way that the answer can
+-- go on: from the row alone the count and the mark of the whole answer follow.
+use mathlib.Core.Path.{_≡_}
+use mathlib.Core.Bool.{true, _&&_}
+use mathlib.Core.List.{List, _++_}
+use Prim.Native.Nat.{ℕ, _+_, _*_, _%_, _^_, _≤_, _<_, min}
+use lib.Bits.{bitAnd}
+use lib.Dec.{ltb}
+use lib.ListN.{length, getD}
+use Rattle.basics.specs.Folds.{sumIf, mostIf}
+use Rattle.bits.specs.Bits.{hasBit}
+use Rattle.graph.specs.Graph.{Graph}
+use Rattle.graph.specs.Readings.{countFrom, readings, added, bestFrom, mark}
+
+-- entry u of the row that begins at `from`
+abbrev pub cell : List ℕ → ℕ → ℕ → ℕ
+cell xs from u = getD xs (from + u) 0
+
+-- over the members of a set: the sum of the counts, 2 ^ 63 where it is more, and the greatest credit
+abbrev pub countOf : ℕ → (ℕ → ℕ) → ℕ
+countOf m row = min (sumIf (hasBit m) row 61) (2 ^ 63)
+
+abbrev pub mostOf : ℕ → (ℕ → ℕ) → ℕ
+mostOf m row = mostIf (hasBit m) row 61
+
+-- after the letters s, in the graph g
+pub record Row (g : Graph) (s : List ℕ) (from active : ℕ) (counts best : List ℕ) : Type 0 where
+  pub counted : (t : List ℕ) → countOf active (λ u. cell counts from u * countFrom g u t) ≡ min (readings g (s ++ t)) (2 ^ 63)
+  pub marked : (t : List ℕ) → mostOf active (λ u. added (cell best from u) (bestFrom g u t)) ≡ bestFrom g 0 (s ++ t)
+  pub low : (u : ℕ) → hasBit active u ≡ true → cell best from u ≤ 9 * length s
+
+-- ---- one letter on
+
+-- the possible states that position i may follow
+abbrev pub arriving : List ℕ → ℕ → ℕ → ℕ
+arriving before active i = bitAnd (getD before i 0) active
+
+-- what position i gets: their counts, and their greatest credit with its own, which may wrap
+abbrev pub newCount : List ℕ → ℕ → ℕ → List ℕ → ℕ → ℕ
+newCount before active from counts i = countOf (arriving before active i) (cell counts from)
+
+abbrev pub newCredit : List ℕ → List ℕ → ℕ → ℕ → List ℕ → ℕ → ℕ
+newCredit before credits active from best i = (mostOf (arriving before active i) (cell best from) + getD credits i 0) % 2 ^ 32
+
+-- j lies outside the row that begins at `to`
+abbrev pub Outside : ℕ → ℕ → Type 0
+Outside to j = (i : ℕ) → i < 61 → j ≡ to + i → ⊥
+
+-- ys is xs but for the row that begins at `to`, where each member i of a set has v i
+pub record Filled (to members : ℕ) (v : ℕ → ℕ) (xs ys : List ℕ) : Type 0 where
+  pub size : length ys ≡ length xs
+  pub made : (i : ℕ) → hasBit members i ≡ true → cell ys to i ≡ v i
+  pub kept : (j : ℕ) → Outside to j → getD ys j 0 ≡ getD xs j 0
+
+-- the row at `to` from the row at `from`, by a letter that the positions of `holds` hold: r is the set of possible states
+pub record Stepped (before credits : List ℕ) (from to active holds : ℕ) (counts best counts′ best′ : List ℕ) (r : ℕ) : Type 0 where
+  pub small : r < 2 ^ 61
+  pub states : (i : ℕ) → hasBit r i ≡ (hasBit holds i && ltb 0 (arriving before active i))
+  pub counted : Filled to r (newCount before active from counts) counts counts′
+  pub marked : Filled to r (newCredit before credits active from best) best best′
+
+-- ---- the answer
+
+-- "the number of readings", 2 ^ 63 where it is more, and the mark
+pub record Answered (g : Graph) (s : List ℕ) (count most : ℕ) : Type 0 where
+  pub counts : count ≡ min (readings g s) (2 ^ 63)
+  pub marks : most ≡ mark g s

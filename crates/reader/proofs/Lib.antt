@@ -1,0 +1,10 @@
+pub mod Places
+pub mod Members
+pub mod Lettering
+pub mod Sets
+pub mod Reading
+pub mod Scanning
+pub mod Describing
+pub mod Steps
+pub mod Building
+pub mod Refusals

@@ -1,0 +1,95 @@
+-- The refusals as a list of tests: the first that applies counts, and where none does the pattern is built. Assumes nothing.
+use mathlib.Core.Path.{_≡_, refl, sym, ap, _∙_, subst}
+use mathlib.Core.Bool.{Bool, true, false, not, _&&_, false≢true, true≢false}
+use mathlib.Core.List.{List, [], _∷_}
+use Prim.Native.Nat.{ℕ, zero, suc, _+_, _<_}
+use native.Mathlib.Nat.{add-zero}
+use native.Mathlib.Numerals.{add-one}
+use native.Mathlib.Omega.{arith}
+use lib.Dec.{eqb, ltb}
+use lib.ListN.{length, getD, take, drop, length-drop}
+use lib.Seq.{drop-cons}
+use borrow.Author.Tests.{eqb-true, eq-eqb, ne-eqb}
+use Rattle.basics.specs.Choice.{if_then_else_}
+use Rattle.basics.specs.Lists.{Each}
+use Rattle.basics.proofs.Tests.{and-when, same-test, if-yes, if-no}
+use Rattle.letters.specs.Alphabet.{isLetter, allLetters}
+use Rattle.graph.specs.Graph.{noGraph, Bounded}
+use Rattle.graph.specs.Built.{shows}
+use Rattle.graph.proofs.Bounds.{none-bounded}
+use Rattle.pattern.specs.Grammar.{readPattern, isPattern, patternPart}
+use Rattle.pattern.specs.Positions.{atoms, places, patternGraph}
+use Rattle.pattern.specs.Refusals.{anyReversed, anyEmpty, patternFault, builtGraph}
+use Rattle.reader.specs.Rows.{Parses}
+use Rattle.reader.specs.Read.{Reads, Refuses}
+use Rattle.reader.specs.declared.parts.Parsed.{Parsed}
+use Rattle.reader.specs.declared.ReadPattern.{ReadPattern}
+
+-- the number of the first test that passes, from k on, or 0
+abbrev firstOf : ℕ → List Bool → ℕ
+firstOf k [] = 0
+firstOf k (t ∷ ts) = if t then k else firstOf (suc k) ts
+
+abbrev Fails : Bool → Type 0
+Fails t = t ≡ false
+
+first-is : (k : ℕ) (ts : List Bool) (n : ℕ) → Each Fails (take n ts) → getD ts n false ≡ true → firstOf k ts ≡ k + n
+first-is k [] n h e = absurd (false≢true e)
+first-is k (t ∷ ts) zero h e = if-yes k (firstOf (suc k) ts) t e ∙ sym (add-zero k)
+first-is k (t ∷ ts) (suc n) h e =
+    let z : suc k + n ≡ k + suc n = omega arith in
+    if-no k (firstOf (suc k) ts) t (h .0) ∙ first-is (suc k) ts n (h .1) e ∙ z
+
+-- and one test more
+pub fails-more : (ts : List Bool) (n : ℕ) → Each Fails (take n ts) → getD ts n true ≡ false → Each Fails (take (suc n) ts)
+fails-more [] n h e = absurd (true≢false e)
+fails-more (t ∷ ts) zero h e = (e, tt)
+fails-more (t ∷ ts) (suc n) h e = (h .0, fails-more ts n (h .1) e)
+
+first-none : (k : ℕ) (ts : List Bool) → Each Fails ts → firstOf k ts ≡ 0
+first-none k [] h = refl
+first-none k (t ∷ ts) h = if-no k (firstOf (suc k) ts) t (h .0) ∙ first-none (suc k) ts (h .1)
+
+module _ (s : List ℕ) where
+  abbrev pub tests : List Bool
+  tests =
+      ltb 512 (length s) ∷ not (allLetters s) ∷ not (isPattern s) ∷ anyReversed (atoms (patternPart s)) ∷ anyEmpty (atoms (patternPart s))
+      ∷ ltb 60 (places (patternPart s)) ∷ []
+
+  -- the first n tests do not apply
+  abbrev pub Passes : ℕ → Type 0
+  Passes n = Each Fails (take n tests)
+
+  -- the test number n applies and none before it
+  pub refuses : (n : ℕ) (r : ReadPattern) → Passes n → getD tests n false ≡ true → Refuses (3 + n) r → Reads s r
+  refuses n r h e w =
+      let fault : patternFault s ≡ 3 + n = first-is 3 tests n h e in
+      let none : builtGraph s ≡ noGraph = if-no (patternGraph s) noGraph (eqb (patternFault s) 0) (ne-eqb (patternFault s) 0 (λ z. omega arith)) in
+      record { refusal = w .refusal ∙ sym fault; graph = w .graph ∙ sym none; bounded = subst Bounded (sym (w .graph)) none-bounded }
+
+  -- none applies
+  pub accepts : (r : ReadPattern) → Passes 6 → r .refusal ≡ 0 → shows (r .built) ≡ patternGraph s → Bounded (patternGraph s) → Reads s r
+  accepts r h z same bounds =
+      let fault = first-none 3 tests h in
+      record {
+        refusal = z ∙ sym fault;
+        graph = same ∙ sym (if-yes (patternGraph s) noGraph (eqb (patternFault s) 0) (eq-eqb (patternFault s) 0 fault));
+        bounded = subst Bounded (sym same) bounds;
+      }
+
+-- ---- the tests as the code has them
+
+-- what was read is good and ends with the text
+pub whole-pattern : (s : List ℕ) (p : Parsed) → Parses s p → (p .good && eqb (p .at) (length s)) ≡ isPattern s
+whole-pattern s p r =
+    let rest = readPattern s .rest in
+    and-when (p .good) (eqb (p .at) (length s)) (eqb (length rest) 0)
+    (λ g.
+    let l = r .within g in
+    let e = ap length (r .rest g) ∙ length-drop (p .at) s in
+    same-test (eqb (p .at) (length s)) (eqb (length rest) 0) (λ z. let y = eqb-true (p .at) (length s) z in eq-eqb (length rest) 0 (omega arith))
+    (λ z. let y = eqb-true (length rest) 0 z in eq-eqb (p .at) (length s) (omega arith)))
+    ∙ ap (λ (b : Bool). b && eqb (length rest) 0) (r .same)
+
+pub letters-from : (s : List ℕ) (i : ℕ) → i < length s → allLetters (drop i s) ≡ (isLetter (getD s i 0) && allLetters (drop (i + 1) s))
+letters-from s i h = rw (add-one, drop-cons s i 0)

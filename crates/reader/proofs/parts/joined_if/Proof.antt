@@ -1,0 +1,19 @@
+-- By the condition. Assumes nothing.
+use mathlib.Core.Path.{sym}
+use mathlib.Core.Bool.{or-false}
+use borrow.Author.Needs.{needs}
+use Rattle.bits.specs.Bits.{hasBit}
+use Rattle.reader.proofs.parts.joined_if.Statement.{statement}
+use Rattle.reader.proofs.parts.joined_if.Tie as tie
+
+joined-requires : tie.Need-joined-requires
+joined-requires c κs = search needs
+
+returns : tie.Need-returns
+returns c b = rw (c .before .if1 .taken) (c .joined .ensures b)
+
+returns-2 : tie.Need-returns-2
+returns-2 c b = rw (c .if1 .left) (sym (or-false (hasBit (c .before .args .x) b)))
+
+pub joined-if-spec : {M : Type 1} → statement M
+joined-if-spec = tie.close (tie.spec joined-requires returns returns-2)

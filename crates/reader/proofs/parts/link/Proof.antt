@@ -1,0 +1,99 @@
+-- The loop's invariant: what the rows have, with those left to come, is what was to come at the start. The set of those left is
+-- the measure. Assumes nothing.
+use mathlib.Core.Path.{_≡_, refl, ap, _∙_}
+use mathlib.Core.Bool.{Bool, _&&_, _||_}
+use Prim.Native.Nat.{ℕ, _<_, _^_}
+use native.Mathlib.Omega.{arith}
+use lib.ListN.{length, getD, length-set}
+use borrow.Author.Needs.{needs}
+use borrow.Author.Tests.{le-ltb}
+use Rattle.bits.specs.Bits.{hasBit, Least}
+use Rattle.bits.proofs.Laws.{lt-of-high, member-below}
+use Rattle.reader.proofs.Sets.{toCome, link-turn, link-end}
+use Rattle.reader.proofs.parts.link.Statement.{statement}
+use Rattle.reader.proofs.parts.link.Tie as tie
+
+abbrev Inv-loop : tie.InvT-loop
+Inv-loop lasts firsts out₀ left₀ out left =
+    (length out ≡ 61) × (left < 2 ^ 61) × ((a b : ℕ) → toCome out left firsts a b ≡ toCome out₀ left₀ firsts a b)
+
+abbrev μ-loop : tie.MeasureT-loop
+μ-loop lasts firsts out₀ left₀ out left = left
+
+-- a member has a row
+index : {m t : ℕ} → m < 2 ^ 61 → Least m t → t < 61
+index {m} {t} h l = member-below 61 m t h (l .here)
+
+below-requires : tie.Need-below-requires Inv-loop μ-loop
+below-requires c κs = search needs
+
+both-requires : tie.Need-both-requires Inv-loop μ-loop
+both-requires c κs = search needs
+
+loop-holds : tie.Need-loop-holds Inv-loop μ-loop
+loop-holds c = (search needs, lt-of-high 61 (c .both .result) (c .both .ok) (λ j h. c .both .ensures j ∙ ap (λ (t : Bool). t && hasBit (c .before .before .args .lasts) j) (c .before .below .ensures j ∙ le-ltb j 61 h)), λ a b. refl)
+
+lowest-requires : tie.Need-lowest-requires Inv-loop μ-loop
+lowest-requires c κs = search needs
+
+mul-joined : tie.Need-mul-joined Inv-loop μ-loop
+mul-joined c = search needs
+
+array-read-joined : tie.Need-array-read-joined Inv-loop μ-loop
+array-read-joined c = index (c .before .before .loop .inv .1) (c .lowest .ensures .1)
+
+joined-requires : tie.Need-joined-requires Inv-loop μ-loop
+joined-requires c κs = search needs
+
+mul-out : tie.Need-mul-out Inv-loop μ-loop
+mul-out c = search needs
+
+array-write-out : tie.Need-array-write-out Inv-loop μ-loop
+array-write-out c = index (c .before .before .before .loop .inv .1) (c .before .lowest .ensures .1)
+
+rest-requires : tie.Need-rest-requires Inv-loop μ-loop
+rest-requires c κs = search needs
+
+loop-less : tie.Need-loop-less Inv-loop μ-loop
+loop-less c = c .rest .ensures .0
+
+loop-again : tie.Need-loop-again Inv-loop μ-loop
+loop-again c =
+    let at = c .before .before .before .before .loop in
+    let t = c .before .before .lowest in
+    let low : t .result < 61 = index (at .inv .1) (t .ensures .1) in
+    let firsts = c .before .before .before .before .before .before .before .args .firsts in (
+      simp length-set (at .inv .0),
+      omega (arith, at .inv .1, c .rest .ensures .0),
+      λ a b.
+          link-turn (at .out) (at .left) firsts (t .result) (c .before .joined .result) (c .rest .result) (omega (arith, at .inv .0)) (t .ensures .1) (c .rest .ensures .1 (t .result) (t .ensures .1)) (c .before .joined .ensures) a b
+          ∙ at .inv .2 a b,
+    )
+
+returns : tie.Need-returns Inv-loop μ-loop
+returns c a b =
+    let at = c .before .loop in
+    let start = c .before .before .before .before .args in
+    link-end (at .out) (at .left) (start .firsts) (omega arith) a b ∙ at .inv .2 a b
+    ∙ ap (λ (t : Bool). hasBit (getD (start .rows) a 0) b || (t && hasBit (start .firsts) b))
+    (c .before .before .both .ensures a ∙ ap (λ (t : Bool). t && hasBit (start .lasts) a) (c .before .before .before .below .ensures a))
+
+pub link-spec : {M : Type 1} → statement M
+link-spec =
+    tie.close
+    (tie.spec
+    Inv-loop
+    μ-loop
+    below-requires
+    both-requires
+    loop-holds
+    lowest-requires
+    mul-joined
+    array-read-joined
+    joined-requires
+    mul-out
+    array-write-out
+    rest-requires
+    loop-less
+    loop-again
+    returns)

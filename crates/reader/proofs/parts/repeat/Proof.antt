@@ -1,0 +1,55 @@
+-- By the byte that is next, which is a byte of the text where it is one of the three. Assumes nothing.
+use native.Mathlib.Omega.{arith}
+use borrow.Author.Needs.{needs}
+use Rattle.pattern.specs.Parts.{optional, star, plus}
+use Rattle.reader.proofs.Places.{next-within}
+use Rattle.reader.proofs.Reading.{repeat-bad, repeat-none, repeat-on}
+use Rattle.reader.proofs.parts.repeat.Statement.{statement}
+use Rattle.reader.proofs.parts.repeat.Tie as tie
+
+returns : tie.Need-returns
+returns c q R w = repeat-bad _ q R _ w (c .if1 .taken)
+
+byte-at-requires : tie.Need-byte-at-requires
+byte-at-requires c κs = search needs
+
+again-requires : tie.Need-again-requires
+again-requires c κs =
+    let inside = next-within (c .before .before .before .before .before .args .s .now) (c .before .before .before .before .before .args .p .at) (omega (arith, c .before .byte-at .ensures)) in
+    omega arith
+
+returns-2 : tie.Need-returns-2
+returns-2 c q R w = repeat-on _ q R _ w _ (c .before .before .byte-at .ensures) (c .before .before .before .if1 .left) optional _ (c .before .if2 .taken) (omega arith) (c .again .ensures)
+
+again-requires-2 : tie.Need-again-requires-2
+again-requires-2 c κs =
+    let inside = next-within (c .before .before .before .before .before .before .args .s .now) (c .before .before .before .before .before .before .args .p .at) (omega (arith, c .before .before .byte-at .ensures)) in
+    omega arith
+
+returns-3 : tie.Need-returns-3
+returns-3 c q R w = repeat-on _ q R _ w _ (c .before .before .before .byte-at .ensures) (c .before .before .before .before .if1 .left) star _ (c .before .if3 .taken) (omega arith) (c .again2 .ensures)
+
+again-requires-3 : tie.Need-again-requires-3
+again-requires-3 c κs =
+    let inside = next-within (c .before .before .before .before .before .before .before .args .s .now) (c .before .before .before .before .before .before .before .args .p .at) (omega (arith, c .before .before .before .byte-at .ensures)) in
+    omega arith
+
+returns-4 : tie.Need-returns-4
+returns-4 c q R w = repeat-on _ q R _ w _ (c .before .before .before .before .byte-at .ensures) (c .before .before .before .before .before .if1 .left) plus _ (c .before .if4 .taken) (omega arith) (c .again3 .ensures)
+
+returns-5 : tie.Need-returns-5
+returns-5 c q R w = repeat-none _ q R _ w _ (c .before .before .before .byte-at .ensures) (c .before .before .before .before .if1 .left) (c .before .before .if2 .left) (c .before .if3 .left) (c .if4 .left)
+
+pub repeat-spec : {M : Type 1} → statement M
+repeat-spec =
+    tie.close
+    (tie.spec
+    returns
+    byte-at-requires
+    again-requires
+    returns-2
+    again-requires-2
+    returns-3
+    again-requires-3
+    returns-4
+    returns-5)

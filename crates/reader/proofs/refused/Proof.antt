@@ -1,0 +1,15 @@
+-- A pattern with nothing in it shows the graph with nothing in it. Assumes nothing.
+use mathlib.Core.Path.{refl}
+use borrow.Author.Needs.{needs}
+use Rattle.reader.proofs.Building.{none-shown}
+use Rattle.reader.proofs.refused.Statement.{statement}
+use Rattle.reader.proofs.refused.Tie as tie
+
+none-requires : tie.Need-none-requires
+none-requires c κs = search needs
+
+returns : tie.Need-returns
+returns c = record { refusal = refl; graph = none-shown (c .none .result) (c .none .ensures) }
+
+pub refused-spec : {M : Type 1} → statement M
+refused-spec = tie.close (tie.spec none-requires returns)

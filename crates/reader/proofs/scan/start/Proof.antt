@@ -1,0 +1,15 @@
+-- No atom is found yet. Assumes nothing.
+use mathlib.Core.Path.{refl}
+use borrow.Author.Needs.{needs}
+use Rattle.reader.proofs.Describing.{none-described}
+use Rattle.reader.proofs.scan.start.Statement.{statement}
+use Rattle.reader.proofs.scan.start.Tie as tie
+
+none-requires : tie.Need-none-requires
+none-requires c κs = search needs
+
+returns : tie.Need-returns
+returns c = (refl, none-described (c .none .result) (c .none .ensures))
+
+pub start-spec : {M : Type 1} → statement M
+start-spec = tie.close (tie.spec none-requires returns)
