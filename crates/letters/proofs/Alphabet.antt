@@ -1,13 +1,17 @@
 -- A set of letters, given by its test: whether it has one, and the lowest it has. Assumes nothing.
 use mathlib.Core.Path.{_≡_, refl, sym, ap, _∙_}
-use mathlib.Core.Bool.{Bool, true, false, _||_, false≢true}
+use mathlib.Core.Bool.{Bool, true, false, _&&_, _||_, false≢true}
+use mathlib.Core.List.{List}
 use Prim.Native.Nat.{ℕ, zero, suc, _+_, _≤_, _<_}
 use native.Mathlib.Omega.{arith}
+use native.Mathlib.Numerals.{add-one}
 use lib.Dec.{leb}
+use lib.ListN.{length, getD, drop}
+use lib.Seq.{drop-cons}
 use borrow.Author.Tests.{leb-true, le-leb}
 use Rattle.basics.specs.Choice.{if_then_else_}
 use Rattle.basics.proofs.Tests.{and-parts, and-of, or-left, or-right, by-equal}
-use Rattle.letters.specs.Alphabet.{isLetter, someFrom, lowestFrom, someLetter, lowestLetter}
+use Rattle.letters.specs.Alphabet.{isLetter, allLetters, someFrom, lowestFrom, someLetter, lowestLetter}
 
 -- c is the lowest of the n codes from k on that pass f
 pub record Lowest (n k : ℕ) (f : ℕ → Bool) (c : ℕ) : Type 0 where
@@ -55,3 +59,7 @@ letter-some f c i h =
     let p = and-parts (leb 32 c) (leb c 126) i in
     let m = leb-true c 126 (p .1) in
     some-from 95 32 f c (leb-true 32 c (p .0)) (omega arith) h
+
+-- the letters of a text from a place on
+pub letters-from : (s : List ℕ) (i : ℕ) → i < length s → allLetters (drop i s) ≡ (isLetter (getD s i 0) && allLetters (drop (i + 1) s))
+letters-from s i h = rw (add-one, drop-cons s i 0)

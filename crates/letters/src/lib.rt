@@ -6,7 +6,7 @@ ghost use Prim.Native.Nat.{ℕ, _<_, _≤_, _+_};
 ghost use lib.Dec.{ltb, leb};
 ghost use Rattle.basics.specs.Folds.{Less};
 ghost use Rattle.bits.specs.Bits.{hasBit};
-ghost use Rattle.letters.specs.Alphabet.{isLetter};
+ghost use Rattle.letters.specs.Alphabet.{isLetter, allLetters};
 ghost use Rattle.letters.specs.LetterSet.{hasLetter, Some, LeastLetter, weight};
 
 // Is the code a letter.
@@ -14,6 +14,20 @@ pub fn is_letter(code: u8) -> bool
     ensures { λ r. ⌜ r ≡ isLetter code ⌝ }
 {
     (32 <= code) & (code <= 126)
+}
+
+// Is every byte a letter: so it is of none.
+pub fn all_letters(s: &[u8]) -> bool
+    ensures { λ r. ⌜ r ≡ allLetters (now (s .entry)) ⌝ }
+{
+    let mut i = 0;
+    while i < s.len() {
+        if !is_letter(s[i]) {
+            return false;
+        }
+        i += 1;
+    }
+    true
 }
 
 // The codes 32 to 95 are bits 0 to 63 of `low`, and 96 to 159 those of `high`, of which only 96 to 126 are letters: the

@@ -2,18 +2,16 @@
 use mathlib.Core.Path.{_≡_, refl, sym, ap, _∙_, subst}
 use mathlib.Core.Bool.{Bool, true, false, not, _&&_, false≢true, true≢false}
 use mathlib.Core.List.{List, [], _∷_}
-use Prim.Native.Nat.{ℕ, zero, suc, _+_, _<_}
+use Prim.Native.Nat.{ℕ, zero, suc, _+_}
 use native.Mathlib.Nat.{add-zero}
-use native.Mathlib.Numerals.{add-one}
 use native.Mathlib.Omega.{arith}
 use lib.Dec.{eqb, ltb}
-use lib.ListN.{length, getD, take, drop, length-drop}
-use lib.Seq.{drop-cons}
+use lib.ListN.{length, getD, take, length-drop}
 use borrow.Author.Tests.{eqb-true, eq-eqb, ne-eqb}
 use Rattle.basics.specs.Choice.{if_then_else_}
 use Rattle.basics.specs.Lists.{Each}
 use Rattle.basics.proofs.Tests.{and-when, same-test, if-yes, if-no}
-use Rattle.letters.specs.Alphabet.{isLetter, allLetters}
+use Rattle.letters.specs.Alphabet.{allLetters}
 use Rattle.graph.specs.Graph.{noGraph, Bounded}
 use Rattle.graph.specs.Built.{shows}
 use Rattle.graph.proofs.Bounds.{none-bounded}
@@ -90,6 +88,3 @@ whole-pattern s p r =
     same-test (eqb (p .at) (length s)) (eqb (length rest) 0) (λ z. let y = eqb-true (p .at) (length s) z in eq-eqb (length rest) 0 (omega arith))
     (λ z. let y = eqb-true (length rest) 0 z in eq-eqb (p .at) (length s) (omega arith)))
     ∙ ap (λ (b : Bool). b && eqb (length rest) 0) (r .same)
-
-pub letters-from : (s : List ℕ) (i : ℕ) → i < length s → allLetters (drop i s) ≡ (isLetter (getD s i 0) && allLetters (drop (i + 1) s))
-letters-from s i h = rw (add-one, drop-cons s i 0)

@@ -6,8 +6,6 @@ pub mod scan;
 use graph::Built;
 use parts::Parsed;
 use scan::Scanned;
-ghost use mathlib.Core.Path.{_≡_};
-ghost use Rattle.letters.specs.Alphabet.{allLetters};
 ghost use Rattle.reader.specs.Read.{Reads, Refuses, Builds};
 
 // A pattern that was read: the number of the first refusal, from 3 to 8, that applies to it, and an empty built pattern; or 0,
@@ -15,20 +13,6 @@ ghost use Rattle.reader.specs.Read.{Reads, Refuses, Builds};
 pub struct ReadPattern {
     pub refusal: u8,
     pub built: Built,
-}
-
-// Is every byte a letter.
-fn all_letters(s: &[u8]) -> bool
-    ensures { λ r. ⌜ r ≡ allLetters (now (s .entry)) ⌝ }
-{
-    let mut i = 0;
-    while i < s.len() {
-        if !letters::is_letter(s[i]) {
-            return false;
-        }
-        i += 1;
-    }
-    true
 }
 
 // A refusal: nothing is built.
@@ -81,7 +65,7 @@ pub fn read(s: &[u8]) -> ReadPattern
     if s.len() > 512 {
         return refused(3);
     }
-    if !all_letters(s) {
+    if !letters::all_letters(s) {
         return refused(4);
     }
     let p = parts::parse(s);

@@ -8,7 +8,7 @@ ghost use Prim.Native.Nat.{ℕ, _≤_, _<_};
 ghost use lib.Dec.{eqb};
 ghost use lib.ListN.{drop};
 ghost use Rattle.bits.specs.Bits.{hasBit};
-ghost use Rattle.pattern.specs.Grammar.{peek, goesOn, readLetter, repeated, patternFrom, branchFrom, pieceFrom};
+ghost use Rattle.pattern.specs.Grammar.{goesOn, readLetter, repeated, patternFrom, branchFrom, pieceFrom};
 ghost use Rattle.pattern.specs.Parts as P;
 ghost use Rattle.reader.specs.Rows.{Marks, Linked, Stands, Reading, Changes, Repeats, Combines, barNext, closedRead, Parses};
 
@@ -25,25 +25,18 @@ pub struct Parsed {
     pub follow: [u64; 61],
 }
 
-// The byte at a place of s, 0 past the end.
-fn byte_at(s: &[u8], at: usize) -> u8
-    ensures { λ r. ⌜ r ≡ peek (drop at (now (s .entry))) ⌝ }
-{
-    if at < s.len() { s[at] } else { 0 }
-}
-
 // Does another branch follow.
 fn is_bar(s: &[u8], good: bool, at: usize) -> bool
     ensures { λ r. ⌜ r ≡ (good && barNext (drop at (now (s .entry)))) ⌝ }
 {
-    good & (byte_at(s, at) == b'|')
+    good & (atoms::byte_at(s, at) == b'|')
 }
 
 // Does another piece follow.
 fn goes_on(s: &[u8], good: bool, at: usize) -> bool
     ensures { λ r. ⌜ r ≡ (good && goesOn (drop at (now (s .entry)))) ⌝ }
 {
-    let b = byte_at(s, at);
+    let b = atoms::byte_at(s, at);
     good & !((s.len() <= at) | ((b == b'|') | (b == b')')))
 }
 
@@ -120,7 +113,7 @@ fn repeat(s: &[u8], p: Parsed) -> Parsed
         return p;
     }
     let at = p.at;
-    let b = byte_at(s, at);
+    let b = atoms::byte_at(s, at);
     if b == b'?' {
         return again(p, true, false);
     }
@@ -139,7 +132,7 @@ fn closed(s: &[u8], p: Parsed) -> Parsed
 {
     let mut out = p;
     let at = p.at;
-    if byte_at(s, at) != b')' {
+    if atoms::byte_at(s, at) != b')' {
         out.good = false;
         return out;
     }
@@ -179,7 +172,7 @@ fn piece(s: &[u8], q: Parsed) -> Parsed
 {
     let mut p = q;
     let at = p.at;
-    if byte_at(s, at) != b'(' {
+    if atoms::byte_at(s, at) != b'(' {
         p = letter(s, p);
         p = repeat(s, p);
         return p;

@@ -23,7 +23,7 @@ use Rattle.reader.proofs.parts.+branch+pattern+piece.Lts-pattern as pat
 use Rattle.reader.proofs.parts.piece.Reads as piece
 use Rattle.reader.proofs.parts.piece.Kinds as piece-kinds
 use Rattle.reader.proofs.parts.+branch+pattern+piece.Lts-piece as piece-lts
-use Rattle.reader.proofs.parts.byte_at.Reads as byte-at-reads
+use Rattle.reader.proofs.atoms.byte_at.Reads as byte-at-reads
 use Rattle.reader.proofs.parts.closed.Reads as closed-reads
 use Rattle.reader.proofs.parts.either.Reads as either-reads
 use Rattle.reader.proofs.parts.goes_on.Reads as goes-on-reads

@@ -6,10 +6,10 @@ use native.Mathlib.Omega.{arith}
 use lib.ListN.{length, drop, drop-of-length-le}
 use borrow.Author.Needs.{needs}
 use borrow.Author.Tests.{not-true, not-false}
 use Rattle.letters.specs.Alphabet.{allLetters}
-use Rattle.reader.proofs.Refusals.{letters-from}
-use Rattle.reader.proofs.all_letters.Statement.{statement}
-use Rattle.reader.proofs.all_letters.Tie as tie
+use Rattle.letters.proofs.Alphabet.{letters-from}
+use Rattle.letters.proofs.all_letters.Statement.{statement}
+use Rattle.letters.proofs.all_letters.Tie as tie
 
 abbrev Inv-loop : tie.InvT-loop
 Inv-loop s i₀ i = (i ≤ length s) × (allLetters s ≡ allLetters (drop i s))

@@ -1,0 +1,68 @@
+-- Marking an answer, refusal by refusal: which of the tests decides, and what is promised then. Assumes nothing.
+use mathlib.Core.Path.{_≡_, sym, ap, _∙_, subst}
+use mathlib.Core.Bool.{Bool, true, false, not}
+use mathlib.Core.List.{List}
+use Prim.Native.Nat.{ℕ, _^_, _≤_, _<_, min}
+use lib.Dec.{eqb, ltb}
+use lib.ListN.{length}
+use borrow.Author.Tests.{eq-eqb, ne-eqb, lt-ltb, le-ltb}
+use Rattle.basics.specs.Choice.{if_then_else_}
+use Rattle.basics.proofs.Tests.{if-yes, if-no}
+use Rattle.letters.specs.Alphabet.{allLetters}
+use Rattle.graph.specs.Graph.{Graph, noGraph}
+use Rattle.graph.specs.Readings.{readings, mark}
+use Rattle.pattern.specs.Refusals.{patternFault, builtGraph}
+use Rattle.pattern.specs.Positions.{patternGraph}
+use Rattle.marks.specs.Rows.{Answered}
+use Rattle.marking.specs.Marking.{markFault, MarkSays}
+use Rattle.marking.specs.declared.Marked.{Marked}
+
+-- an accepted pattern is built into its graph
+pub built-graph : (s : List ℕ) → patternFault s ≡ 0 → builtGraph s ≡ patternGraph s
+built-graph s e = if-yes (patternGraph s) noGraph (eqb (patternFault s) 0) (eq-eqb (patternFault s) 0 e)
+
+module _ (s a : List ℕ) where
+  -- ---- which refusal
+
+  abbrev of-answer : ℕ
+  of-answer = if ltb 4096 (length a) then 9 else if not (allLetters a) then 10 else 0
+
+  pub by-pattern : (patternFault s ≡ 0 → ⊥) → markFault s a ≡ patternFault s
+  by-pattern d = if-yes (patternFault s) of-answer (not (eqb (patternFault s) 0)) (ap not (ne-eqb (patternFault s) 0 d))
+
+  by-answer : patternFault s ≡ 0 → markFault s a ≡ of-answer
+  by-answer e = if-no (patternFault s) of-answer (not (eqb (patternFault s) 0)) (ap not (eq-eqb (patternFault s) 0 e))
+
+  pub too-long : patternFault s ≡ 0 → 4096 < length a → markFault s a ≡ 9
+  too-long e l = by-answer e ∙ if-yes 9 (if not (allLetters a) then 10 else 0) (ltb 4096 (length a)) (lt-ltb 4096 (length a) l)
+
+  by-letters : patternFault s ≡ 0 → length a ≤ 4096 → markFault s a ≡ (if not (allLetters a) then 10 else 0)
+  by-letters e l = by-answer e ∙ if-no 9 (if not (allLetters a) then 10 else 0) (ltb 4096 (length a)) (le-ltb 4096 (length a) l)
+
+  pub no-text : patternFault s ≡ 0 → length a ≤ 4096 → allLetters a ≡ false → markFault s a ≡ 10
+  no-text e l n = by-letters e l ∙ if-yes {A = ℕ} 10 0 (not (allLetters a)) (ap not n)
+
+  pub accepted : patternFault s ≡ 0 → length a ≤ 4096 → allLetters a ≡ true → markFault s a ≡ 0
+  accepted e l y = by-letters e l ∙ if-no {A = ℕ} 10 0 (not (allLetters a)) (ap not y)
+
+  -- ---- what is promised
+
+  pub says-refusal : (k : ℕ) (r : Marked) → (k ≡ 0 → ⊥) → markFault s a ≡ k → (r .refusal ≡ k) × (r .count ≡ 0) × (r .mark ≡ 0) → MarkSays s a r
+  says-refusal k r d f h =
+      let n : eqb (markFault s a) 0 ≡ false = ne-eqb (markFault s a) 0 (λ e. d (sym f ∙ e)) in
+      record {
+        refusal = h .0 ∙ sym f;
+        count = h .1 ∙ sym (if-no (min (readings (patternGraph s) a) (2 ^ 63)) 0 (eqb (markFault s a) 0) n);
+        mark = h .2 ∙ sym (if-no (mark (patternGraph s) a) 0 (eqb (markFault s a) 0) n);
+      }
+
+  pub says-mark : (g : Graph) (count most : ℕ) → g ≡ builtGraph s → patternFault s ≡ 0 → markFault s a ≡ 0 → Answered g a count most
+      → MarkSays s a (record { refusal = 0; count = count; mark = most })
+  says-mark g count most e p f h =
+      let w = subst (λ (x : Graph). Answered x a count most) (e ∙ built-graph s p) h in
+      let y : eqb (markFault s a) 0 ≡ true = eq-eqb (markFault s a) 0 f in
+      record {
+        refusal = sym f;
+        count = w .counts ∙ sym (if-yes (min (readings (patternGraph s) a) (2 ^ 63)) 0 (eqb (markFault s a) 0) y);
+        mark = w .marks ∙ sym (if-yes (mark (patternGraph s) a) 0 (eqb (markFault s a) 0) y);
+      }

@@ -1,0 +1,2 @@
+-- What the calls promise.
+pub mod Marking
