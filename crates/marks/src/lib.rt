@@ -109,7 +109,7 @@ fn with_if(set: u64, i: usize, some: u64) -> u64
 
 // One letter on: the row at `to` from the row at `from`, whose possible states are `active`, by a letter that the positions of
 // `holds` hold. Returns the states that are possible then.
-pub fn step(
+fn step(
     counts: &mut [u64],
     best: &mut [u32],
     from: usize,
@@ -135,8 +135,9 @@ pub fn step(
     out
 }
 
-// The answer, letter by letter, until no state is possible. The rows are at 0 and at 61, in turn.
-pub fn run(
+// The answer, letter by letter, until no state is possible. The rows are at 0 and at 61, in turn. How many places the graph of
+// the tables has plays no part in it, as long as that graph is within the bounds.
+fn run(
     counts: &mut [u64],
     best: &mut [u32],
     answer: &[u8],

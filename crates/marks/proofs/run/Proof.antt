@@ -49,7 +49,7 @@ loop-holds c =
       sizeC = refl;
       sizeB = refl;
       row = λ p _.
-          row-begin (tables p (a .holders .now) (a .before .now) (a .lasts) (a .credits .now)) 0 (set (a .counts .now) 0 1) (set (a .best .now) 0 0) (getD-set-same (a .counts .now) 0 1 0 (omega arith))
+          row-begin (tables p (a .holders .now) (a .before .now) (a .lasts) (a .credits .now)) 0 _ _ (getD-set-same (a .counts .now) 0 1 0 (omega arith))
           (getD-set-same (a .best .now) 0 0 0 (omega arith));
     }
 
@@ -119,7 +119,7 @@ gather-requires c κs =
     let sizeC = at .inv .sizeC ∙ length-set (a .counts .now) 0 1 in
     let sizeB = at .inv .sizeB ∙ length-set (a .best .now) 0 0 in
     let pre = s .pre in
-    let small = lt-of-le-of-lt (and-le-l (at .active) (a .lasts)) (at .inv .small) in
+    let small = lt-of-le-of-lt (and-le-l (at .active) _) (at .inv .small) in
     ⊎-elim (λ e. (small, omega arith, omega arith)) (λ e. (small, omega arith, omega arith)) (at .inv .turn)
 
 same-length : tie.Need-same-length Inv-loop μ-loop

@@ -32,7 +32,9 @@ add-fill : tie.Need-add-fill Inv-loop μ-loop
 add-fill c = omega arith
 
 element-copy-out-fill : tie.Need-element-copy-out-fill Inv-loop μ-loop
-element-copy-out-fill c = member-below 61 (c .before .before .before .before .before .loop .left) (c .before .before .before .lowest .result) (c .before .before .before .before .before .loop .inv .small) (c .before .before .before .lowest .ensures .1 .here)
+element-copy-out-fill c =
+    let at = c .before .before .before .before .before .loop in
+    omega (arith, member-below 61 (at .left) (c .before .before .before .lowest .result) (at .inv .small) (c .before .before .before .lowest .ensures .1 .here))
 
 fill-requires : tie.Need-fill-requires Inv-loop μ-loop
 fill-requires c κs =
