@@ -21,3 +21,8 @@ module _ {A : Type 0} where
   abbrev pub endOf : A → List A → A
   endOf a [] = a
   endOf a (x ∷ xs) = endOf x xs
+
+  -- from a, step by step, through the entries of a list
+  abbrev pub Chain : (A → A → Type 0) → A → List A → Type 0
+  Chain E a [] = Unit {0}
+  Chain E a (x ∷ c) = E a x × Chain E x c

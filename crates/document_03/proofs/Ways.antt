@@ -9,14 +9,14 @@ use native.Mathlib.Omega.{arith}
 use lib.Dec.{eqb}
 use lib.ListN.{length}
 use borrow.Author.Tests.{eqb-true, ltb-true, lt-ltb}
-use Rattle.basics.specs.Lists.{endOf}
+use Rattle.basics.specs.Lists.{endOf, Chain}
 use Rattle.basics.proofs.Tests.{and-parts, and-of, or-cases, or-left, or-right, by-equal}
 use Rattle.letters.specs.Alphabet.{someFrom, lowestFrom}
 use Rattle.graph.specs.Graph.{isPosition}
 use Rattle.pattern.specs.Parts.{Part}
 use Rattle.pattern.specs.Positions.{graphOf}
 use Rattle.verdict.specs.Pairs.{Pair, pair, bothHold, shares, somePair}
-use Rattle.verdict.proofs.Chains.{Chain, chain-end, Way, way-step, way-join, short}
+use Rattle.verdict.proofs.Chains.{chain-end, Way, way-step, way-join, short}
 use Rattle.verdict.proofs.Pairs.{Placed, Beside, pairNumber, pair-low, pair-told}
 use Rattle.verdict.proofs.Reached.{pair-found}
 use Rattle.document_03.specs.Patterns as D

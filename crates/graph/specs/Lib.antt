@@ -2,3 +2,4 @@
 pub mod Graph
 pub mod Readings
 pub mod Built
+pub mod Trim

@@ -16,7 +16,7 @@ use Rattle.basics.proofs.Lists.{end-append}
 use Rattle.letters.specs.Alphabet.{isLetter, someLetter}
 use Rattle.graph.specs.Graph.{isPosition}
 use Rattle.graph.proofs.Walks.{position-of}
-use Rattle.graph.proofs.Trim.{Route, Useful, Trim}
+use Rattle.graph.specs.Trim.{Route, Useful, Trim}
 use Rattle.pattern.specs.Parts.{Atom, holds, Part, letter, either, joined, again}
 use Rattle.pattern.specs.Grammar.{noAtom, patternPart}
 use Rattle.pattern.specs.Positions.{atoms, places, atomAt, graphOf}

@@ -18,7 +18,7 @@ use Rattle.graph.specs.Graph.{Graph}
 use Rattle.graph.specs.Readings.{isReading, readings}
 use Rattle.graph.proofs.Walks.{Walk, Reads, reads-walk, walk-reads}
 use Rattle.graph.proofs.Counting.{readings-most, readings-bound, two-count}
-use Rattle.graph.proofs.Trim.{Trim}
+use Rattle.graph.specs.Trim.{Trim}
 use Rattle.verdict.specs.Verdict.{ambiguous, firstPivot, verdict}
 use Rattle.verdict.specs.Evidence.{times, ShowsSteady, ShowsRunaway}
 use Rattle.verdict.proofs.Steady.{steady}

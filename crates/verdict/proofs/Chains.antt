@@ -5,39 +5,34 @@ use mathlib.Core.Logic.{_⊎_, inl, inr, ⊎-elim}
 use mathlib.Core.List.{List, [], _∷_, _++_, map}
 use Prim.Native.Nat.{ℕ, _≤_, _<_, zero-le}
 use lib.ListN.{length}
-use Rattle.basics.specs.Lists.{Each, Apart, In, endOf}
+use Rattle.basics.specs.Lists.{Each, Apart, In, endOf, Chain}
 use Rattle.basics.proofs.Tests.{by-equal}
 use Rattle.basics.proofs.Lists.{end-append, pigeon}
 
 module _ {A : Type 0} (E : A → A → Type 0) where
-  -- from a node, step by step, through those of a list
-  abbrev pub Chain : A → List A → Type 0
-  Chain a [] = Unit {0}
-  Chain a (x ∷ c) = E a x × Chain x c
-
   pub record Way (a z : A) : Type 0 where
     pub nodes : List A
-    pub goes : Chain a nodes
+    pub goes : Chain E a nodes
     pub ends : endOf a nodes ≡ z
 
   -- with at most n steps
   pub record Short (n : ℕ) (a z : A) : Type 0 where
     pub nodes : List A
-    pub goes : Chain a nodes
+    pub goes : Chain E a nodes
     pub ends : endOf a nodes ≡ z
     pub few : length nodes ≤ n
 
-  chain-append : (a : A) (c d : List A) → Chain a c → Chain (endOf a c) d → Chain a (c ++ d)
+  chain-append : (a : A) (c d : List A) → Chain E a c → Chain E (endOf a c) d → Chain E a (c ++ d)
   chain-append a [] d h k = k
   chain-append a (x ∷ c) d h k = (h .0, chain-append x c d (h .1) k)
 
   -- what a step brings holds of each node after the first
-  pub chain-each : (P : A → Type 0) → ((x y : A) → E x y → P y) → (a : A) (c : List A) → Chain a c → Each P c
+  pub chain-each : (P : A → Type 0) → ((x y : A) → E x y → P y) → (a : A) (c : List A) → Chain E a c → Each P c
   chain-each P f a [] h = tt
   chain-each P f a (x ∷ c) h = (f a x (h .0), chain-each P f x c (h .1))
 
   -- what a step keeps holds at the end if it does at the beginning
-  pub chain-end : (P : A → Type 0) → ((x y : A) → E x y → P x → P y) → (a : A) (c : List A) → Chain a c → P a → P (endOf a c)
+  pub chain-end : (P : A → Type 0) → ((x y : A) → E x y → P x → P y) → (a : A) (c : List A) → Chain E a c → P a → P (endOf a c)
   chain-end P f a [] h p = p
   chain-end P f a (x ∷ c) h p = chain-end P f x c (h .1) (f a x (h .0) p)
 
@@ -50,7 +45,7 @@ module _ {A : Type 0} (E : A → A → Type 0) where
   pub way-join : (a b z : A) → Way a b → Way b z → Way a z
   way-join a b z v w = record {
     nodes = v .nodes ++ w .nodes;
-    goes = chain-append a (v .nodes) (w .nodes) (v .goes) (subst (λ (x : A). Chain x (w .nodes)) (sym (v .ends)) (w .goes));
+    goes = chain-append a (v .nodes) (w .nodes) (v .goes) (subst (λ (x : A). Chain E x (w .nodes)) (sym (v .ends)) (w .goes));
     ends = end-append a (v .nodes) (w .nodes) ∙ ap (λ (x : A). endOf x (w .nodes)) (v .ends) ∙ w .ends;
   }
 
@@ -61,7 +56,7 @@ module _ {A : Type 0} (E : A → A → Type 0) where
     -- a chain with no node twice
     record Simple (a z : A) : Type 0 where
       nodes : List A
-      goes : Chain a nodes
+      goes : Chain E a nodes
       ends : endOf a nodes ≡ z
       apart : Apart (a ∷ nodes)
 
@@ -72,13 +67,13 @@ module _ {A : Type 0} (E : A → A → Type 0) where
         by-equal (number a) (number x) (λ e. inl (inl (told a x p (h .0) e))) (λ d. ⊎-elim (λ m. inl (inr m)) (λ k. inr (λ e. d (ap number e), k)) rest)
 
     -- from a node on it to its end
-    cut : (a x z : A) (c : List A) → Chain x c → endOf x c ≡ z → Apart (x ∷ c) → In a (x ∷ c) → Simple a z
+    cut : (a x z : A) (c : List A) → Chain E x c → endOf x c ≡ z → Apart (x ∷ c) → In a (x ∷ c) → Simple a z
     cut a x z [] h e d (inl q) = subst (λ (y : A). Simple y z) (sym q) (record { nodes = []; goes = h; ends = e; apart = d })
     cut a x z (y ∷ c) h e d (inl q) = subst (λ (w : A). Simple w z) (sym q) (record { nodes = y ∷ c; goes = h; ends = e; apart = d })
     cut a x z [] h e d (inr m) = absurd m
     cut a x z (y ∷ c) h e d (inr m) = cut a y z c (h .1) e (d .1) m
 
-    simple : (a : A) → P a → (c : List A) → Chain a c → Simple a (endOf a c)
+    simple : (a : A) → P a → (c : List A) → Chain E a c → Simple a (endOf a c)
     simple a p [] h = record { nodes = []; goes = tt; ends = refl; apart = (tt, tt) }
     simple a p (x ∷ c) h =
         let q = steps a x (h .0) in
@@ -87,7 +82,7 @@ module _ {A : Type 0} (E : A → A → Type 0) where
         (λ d. record { nodes = x ∷ s .nodes; goes = (h .0, s .goes); ends = s .ends; apart = (d, s .apart) })
         (find a p (x ∷ s .nodes) (q, chain-each P steps x (s .nodes) (s .goes)))
 
-    short-chain : (a : A) (c : List A) → Chain a c → Short n a (endOf a c)
+    short-chain : (a : A) (c : List A) → Chain E a c → Short n a (endOf a c)
     short-chain a [] h = record { nodes = []; goes = tt; ends = refl; few = zero-le }
     short-chain a (x ∷ c) h =
         let q = steps a x (h .0) in

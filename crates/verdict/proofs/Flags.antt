@@ -8,13 +8,13 @@ use Prim.Native.Nat.{ℕ, _+_, _-_, _<_}
 use native.Mathlib.Omega.{arith}
 use lib.Dec.{eqb}
 use borrow.Author.Tests.{eqb-true, eq-eqb, ne-eqb, not-false}
-use Rattle.basics.specs.Lists.{endOf}
+use Rattle.basics.specs.Lists.{endOf, Chain}
 use Rattle.basics.proofs.Tests.{or-left, or-right, or-parts, by-test}
 use Rattle.basics.proofs.Lists.{map-end}
 use Rattle.graph.specs.Graph.{Graph}
 use Rattle.verdict.specs.Pairs.{Pair, pair}
 use Rattle.verdict.specs.Evidence.{longest}
-use Rattle.verdict.proofs.Chains.{Chain, chain-end, chain-map, Way, way-end, way-step, way-join, Short, short}
+use Rattle.verdict.proofs.Chains.{chain-end, chain-map, Way, way-end, way-step, way-join, Short, short}
 use Rattle.verdict.proofs.Pairs.{lefts, rights, pair-same, Placed, Beside, place-low, place-told, pairNumber, pair-low, pair-told}
 
 -- a pair, and whether the two paths have parted
@@ -48,7 +48,7 @@ module _ (g : Graph) where
   off-flagged : (n m : Node) → Moves n m → (m .at .left ≡ m .at .right → ⊥) → m .parted ≡ true
   off-flagged n m s d = s .flag ∙ or-right (n .parted) (not (eqb (m .at .left) (m .at .right))) (ap not (ne-eqb (m .at .left) (m .at .right) d))
 
-  same-at : (n m : Node) → Moves n m → m .parted ≡ false → m .at .left ≡ m .at .right
+  pub same-at : (n m : Node) → Moves n m → m .parted ≡ false → m .at .left ≡ m .at .right
   same-at n m s e =
       let b = eqb (m .at .left) (m .at .right) in
       eqb-true (m .at .left) (m .at .right) (not-false b (or-parts (n .parted) (not b) (sym (s .flag) ∙ e) .1))
@@ -127,18 +127,18 @@ module _ (g : Graph) where
 
   -- ---- flagged pairs told apart by numbers below p * p + p
 
-  abbrev numberOf : Bool → Pair → ℕ
+  abbrev pub numberOf : Bool → Pair → ℕ
   numberOf false t = t .left - 1
   numberOf true t = g .places + pairNumber g t
 
-  abbrev Met : Bool → Pair → Type 0
+  abbrev pub Met : Bool → Pair → Type 0
   Met f t = Placed g t × (f ≡ false → t .left ≡ t .right)
 
-  node-low : (f : Bool) (t : Pair) → Met f t → numberOf f t < longest g
+  pub node-low : (f : Bool) (t : Pair) → Met f t → numberOf f t < longest g
   node-low false t h = let l = place-low g (t .left) (h .0 .0) in omega arith
   node-low true t h = let l = pair-low g t (h .0) in omega arith
 
-  node-told : (f e : Bool) (t u : Pair) → Met f t → Met e u → numberOf f t ≡ numberOf e u → node t f ≡ node u e
+  pub node-told : (f e : Bool) (t u : Pair) → Met f t → Met e u → numberOf f t ≡ numberOf e u → node t f ≡ node u e
   node-told false false t u h k q =
       let l = place-told g (t .left) (u .left) (h .0 .0) (k .0 .0) q in
       ap (λ (x : Pair). node x false) (pair-same t u l (sym (h .1 refl) ∙ l ∙ k .1 refl))

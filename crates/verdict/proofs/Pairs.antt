@@ -6,6 +6,7 @@ use mathlib.Core.List.{List, [], _∷_, map}
 use Prim.Native.Nat.{ℕ, _-_, _+_, _*_, _/_, _%_, _<_}
 use native.Mathlib.Omega.{arith}
 use lib.Arith.{digits-lt, digits-div, digits-mod}
+use Rattle.basics.specs.Lists.{Chain}
 use Rattle.basics.proofs.Tests.{and-parts, and-of}
 use Rattle.letters.specs.Alphabet.{isLetter, allLetters}
 use Rattle.letters.proofs.Alphabet.{lowest-letter, letter-some}
@@ -13,7 +14,6 @@ use Rattle.graph.specs.Graph.{Graph, isPosition, step}
 use Rattle.graph.proofs.Walks.{Walk, position-of, step-parts, step-of}
 use Rattle.verdict.specs.Pairs.{Pair, pair, bothHold, shares, letterShown}
 use Rattle.verdict.specs.Evidence.{shown}
-use Rattle.verdict.proofs.Chains.{Chain}
 
 -- two digits below n are told apart by their number
 digits-same : (n a b c d : ℕ) → b < n → d < n → a * n + b ≡ c * n + d → (a ≡ c) × (b ≡ d)

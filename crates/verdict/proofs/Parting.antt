@@ -15,7 +15,7 @@ use Rattle.basics.proofs.Lists.{map-end}
 use Rattle.letters.specs.Alphabet.{allLetters}
 use Rattle.graph.specs.Graph.{Graph}
 use Rattle.graph.proofs.Walks.{Walk, walk-length}
-use Rattle.graph.proofs.Trim.{Trim}
+use Rattle.graph.specs.Trim.{Trim}
 use Rattle.verdict.specs.Pairs.{Pair, pair, somePair}
 use Rattle.verdict.specs.Evidence.{shown, longest}
 use Rattle.verdict.specs.Verdict.{reaches, partsTo}
@@ -66,10 +66,10 @@ module _ (g : Graph) (u : ℕ) (goal : ℕ → ℕ → Bool) where
 -- ---- by walks
 
 -- where a side of a flagged chain leads
-side-end : (side : Pair → ℕ) (n : Node) (c : List Node) → endOf (side (n .at)) (map side (pairs c)) ≡ side (endOf n c .at)
+pub side-end : (side : Pair → ℕ) (n : Node) (c : List Node) → endOf (side (n .at)) (map side (pairs c)) ≡ side (endOf n c .at)
 side-end side n c = map-end side (n .at) (pairs c) ∙ ap side (map-end (λ (k : Node). k .at) n c)
 
-some-of : (c : List Pair) → (lefts c ≡ rights c → ⊥) → 1 ≤ length c
+pub some-of : (c : List Pair) → (lefts c ≡ rights c → ⊥) → 1 ≤ length c
 some-of [] d = absurd (d refl)
 some-of (t ∷ c) d = omega arith
 
@@ -87,7 +87,7 @@ pub record Parting (g : Graph) (u : ℕ) (goal : ℕ → ℕ → Bool) : Type 0 
 
 module _ (g : Graph) (trim : Trim g) (u : ℕ) (goal : ℕ → ℕ → Bool) where
   -- a short chain of flagged pairs shows such walks: its two sides
-  pub short-parting : (z : Pair) → goal (z .left) (z .right) ≡ true → Short (Moves g) (longest g) (start u) (node z true) → Parting g u goal
+  abbrev pub short-parting : (z : Pair) → goal (z .left) (z .right) ≡ true → Short (Moves g) (longest g) (start u) (node z true) → Parting g u goal
   short-parting z passes s =
       let c = pairs (s .nodes) in
       let k = pairs-go g (start u) (s .nodes) (s .goes) in

@@ -15,7 +15,7 @@ use Rattle.basics.proofs.Folds.{least, list-first, list-none}
 use Rattle.letters.specs.Alphabet.{allLetters}
 use Rattle.graph.specs.Graph.{Graph, isPosition}
 use Rattle.graph.proofs.Walks.{Walk, position-of}
-use Rattle.graph.proofs.Trim.{Trim}
+use Rattle.graph.specs.Trim.{Trim}
 use Rattle.verdict.specs.Evidence.{shown, longest}
 use Rattle.verdict.specs.Verdict.{isPivot, firstPivot}
 use Rattle.verdict.proofs.Parting.{Parting, parting, walks-same, walks-part}
@@ -78,7 +78,7 @@ backTo q c d = eqb c q && eqb d q
 both-back : (q c d : ℕ) → c ≡ q → d ≡ q → backTo q c d ≡ true
 both-back q c d e f = and-of (eqb c q) (eqb d q) (eq-eqb c q e) (eq-eqb d q f)
 
-pub parting-loops : (g : Graph) (q : ℕ) → Parting g q (backTo q) → Loops g q
+abbrev pub parting-loops : (g : Graph) (q : ℕ) → Parting g q (backTo q) → Loops g q
 parting-loops g q p =
     let b = and-parts (eqb (endOf q (p .one)) q) (eqb (endOf q (p .other)) q) (p .passes) in
     record {

@@ -10,14 +10,14 @@ use lib.Dec.{eqb}
 use lib.ListN.{length}
 use borrow.Author.Tests.{eqb-true, eq-eqb}
 use Rattle.basics.specs.Folds.{anyIf}
-use Rattle.basics.specs.Lists.{endOf}
+use Rattle.basics.specs.Lists.{endOf, Chain}
 use Rattle.basics.proofs.Tests.{and-parts, and-of, or-left, or-right, or-cases, by-equal}
 use Rattle.basics.proofs.Folds.{any-found, any-true}
 use Rattle.graph.specs.Graph.{Graph, isPosition}
 use Rattle.graph.proofs.Walks.{position-of}
 use Rattle.verdict.specs.Pairs.{Pair, pair, shares, somePair, beside, reached}
 use Rattle.verdict.specs.Verdict.{reaches}
-use Rattle.verdict.proofs.Chains.{Chain, Way, way-step, way-join, short}
+use Rattle.verdict.proofs.Chains.{Way, way-step, way-join, short}
 use Rattle.verdict.proofs.Pairs.{Placed, Beside, pair-same, pairNumber, pair-low, pair-told}
 
 module _ (g : Graph) where

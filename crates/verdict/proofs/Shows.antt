@@ -13,7 +13,7 @@ use Rattle.letters.proofs.Alphabet.{lowest-letter, letter-some}
 use Rattle.graph.specs.Graph.{Graph, isPosition}
 use Rattle.graph.specs.Readings.{isReading}
 use Rattle.graph.proofs.Walks.{Walk, Reads, position-of, step-of, walk-length, reads-walk, walk-reads, reads-append, reads-split}
-use Rattle.graph.proofs.Trim.{Trim, Route, Useful}
+use Rattle.graph.specs.Trim.{Trim, Route, Useful}
 use Rattle.verdict.specs.Pairs.{bothHold, shares, letterShown}
 use Rattle.verdict.specs.Evidence.{shown, ShowsSteady, ShowsRunaway}
 use Rattle.verdict.specs.Verdict.{ambiguous, firstPivot}

@@ -1,5 +1,5 @@
 -- What a verdict asks of a graph beyond its definition: every set holds a letter and letters only, and every position lies on a
--- short way from before any letter to an end (the automaton is trim). Patterns' graphs have it. Assumes nothing.
+-- short way from before any letter to an end (the automaton is trim). Patterns' graphs have it.
 use mathlib.Core.Path.{_≡_}
 use mathlib.Core.Bool.{true}
 use mathlib.Core.List.{List, [], _∷_}
