@@ -128,6 +128,9 @@ module _ {A : Type 0} where
   set-keeps P (x ∷ xs) (suc i) a d p h zero = h 0
   set-keeps P (x ∷ xs) (suc i) a d p h (suc j) = set-keeps P xs i a d p (λ k. h (suc k)) j
 
+pub zeros : (n i : ℕ) → _≡_ {A = ℕ} (getD (replicate n 0) i 0) 0
+zeros n i = alike (λ (x : ℕ). x ≡ 0) n 0 0 refl refl i
+
 -- ---- through a function
 
 -- `search (needs, length-mapped)` finds the length of an array of structs by value

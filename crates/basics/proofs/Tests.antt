@@ -1,7 +1,7 @@
 -- What a test that passes says of its parts, and cases by a test. Assumes nothing.
-use mathlib.Core.Path.{_≡_, refl, sym, ap, _∙_}
+use mathlib.Core.Path.{_≡_, refl, sym, ap, ap₂, _∙_}
 use mathlib.Core.Logic.{_⊎_, inl, inr, ⊎-elim}
-use mathlib.Core.Bool.{Bool, true, false, not, _&&_, _||_, false≢true, true≢false}
+use mathlib.Core.Bool.{Bool, true, false, not, _&&_, _||_, and-true, and-false, or-false, false≢true, true≢false}
 use Prim.Native.Nat.{ℕ, zero, suc, _+_, _≤_, _<_, zero-le, suc-le-suc}
 use native.Mathlib.Omega.{arith}
 use lib.Dec.{eqb, ltb, leb}
@@ -89,3 +89,13 @@ pub equal-added : (k a b : ℕ) → eqb (k + a) (k + b) ≡ eqb a b
 equal-added k a b =
     by-equal a b (λ z. eq-eqb (k + a) (k + b) (ap (λ (n : ℕ). k + n) z) ∙ sym (eq-eqb a b z))
     (λ d. ne-eqb (k + a) (k + b) (λ z. d (omega arith)) ∙ sym (ne-eqb a b d))
+
+-- the numbers below b that pass f, and b if it does
+pub one-further : (f : ℕ → Bool) (b j : ℕ) → ((ltb j b && f j) || (f b && eqb b j)) ≡ (ltb j (b + 1) && f j)
+one-further f b j =
+    by-equal b j
+    (λ z.
+    ap₂ (λ (x y : Bool). (x && f j) || y) (le-ltb j b (omega arith)) (ap₂ _&&_ (ap f z) (eq-eqb b j z) ∙ and-true (f j)) ∙ sym (ap (λ (x : Bool). x && f j) (lt-ltb j (b + 1) (omega arith))))
+    (λ d.
+    ap (λ (x : Bool). (ltb j b && f j) || (f b && x)) (ne-eqb b j d) ∙ ap (λ (x : Bool). (ltb j b && f j) || x) (and-false (f b)) ∙ or-false (ltb j b && f j)
+    ∙ ap (λ (x : Bool). x && f j) (same-less j b j (b + 1) (λ h. omega arith) (λ h. omega arith)))

@@ -1,2 +1,3 @@
 pub mod Demands
 pub mod Marking
+pub mod Vetting

@@ -1,2 +1,3 @@
 -- What the calls promise.
 pub mod Marking
+pub mod Vetting

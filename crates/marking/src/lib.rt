@@ -1,9 +1,88 @@
 // The calls that clients make, from Rattle and from C. No call has a `requires`: each tests its input itself, and what it
 // gives is said for all input.
 ghost use mathlib.Core.Path.{_≡_};
+ghost use Prim.Native.Nat.{_<_, _^_};
 ghost use lib.Dec.{eqb};
 ghost use Rattle.basics.specs.Choice.{if_then_else_};
 ghost use Rattle.marking.specs.Marking.{MarkSays, markPacked, countAfter};
+ghost use Rattle.marking.specs.Vetting.{VetSays, VetForC, refused, vetPacked};
+
+// What vetting gives: the refusal, or 0 and the verdict (0 single, 1 steady, 2 runaway), the number of positions, and the lengths
+// of the texts at the beginning of the evidence.
+pub struct Vetted {
+    pub refusal: u8,
+    pub verdict: u8,
+    pub places: u8,
+    pub first: u32,
+    pub second: u32,
+    pub third: u32,
+}
+
+// Vets a pattern. The evidence gets the texts that show the verdict, and beyond them keeps its old bytes; scratch may hold
+// anything before, and does after.
+pub fn vet_pattern(pattern: &[u8], evidence: &mut [u8], scratch: &mut [u16]) -> Vetted
+    ensures { λ r. ⌜ VetSays (now (pattern .entry)) (now (evidence .entry)) (now (evidence .exit)) (now (scratch .entry)) (now (scratch .exit)) r ⌝ }
+{
+    if evidence.len() < 4096 {
+        return no_verdict(1);
+    }
+    if scratch.len() < 8192 {
+        return no_verdict(2);
+    }
+    let p = reader::read(pattern);
+    if p.refusal != 0 {
+        return no_verdict(p.refusal);
+    }
+    let built = p.built;
+    let places = built.places as u8;
+    let v = walk::vet(built, &mut *evidence, &mut *scratch);
+    Vetted {
+        refusal: 0,
+        verdict: v.verdict,
+        places: places,
+        first: v.first,
+        second: v.second,
+        third: v.third,
+    }
+}
+
+// A refusal to vet.
+fn no_verdict(refusal: u8) -> Vetted
+    ensures { λ r. ⌜ r ≡ refused refusal ⌝ }
+{
+    Vetted {
+        refusal: refusal,
+        verdict: 0,
+        places: 0,
+        first: 0,
+        second: 0,
+        third: 0,
+    }
+}
+
+// The same for C, with scratch of its own, and one number for the result: the refusal in bits 0 to 7, the verdict in 8 to 15, the
+// number of positions in 16 to 23, the lengths in 24 to 35, 36 to 47 and 48 to 59.
+#[no_mangle]
+pub extern "C" fn marking_vet(pattern: &[u8], evidence: &mut [u8]) -> u64
+    ensures { λ r. ⌜ VetForC (now (pattern .entry)) (now (evidence .entry)) (now (evidence .exit)) r ⌝ }
+{
+    let mut scratch = [0u16; 8192];
+    let v = vet_pattern(pattern, &mut *evidence, &mut scratch);
+    packed(v)
+}
+
+// A result as one number.
+fn packed(v: Vetted) -> u64
+    requires { ⌜ (v .first < 2 ^ 12) × (v .second < 2 ^ 12) × (v .third < 2 ^ 12) ⌝ }
+    ensures { λ r. ⌜ r ≡ vetPacked v ⌝ }
+{
+    v.refusal as u64
+        + v.verdict as u64 * 0x100
+        + v.places as u64 * 0x1_0000
+        + v.first as u64 * 0x100_0000
+        + v.second as u64 * 0x10_0000_0000
+        + v.third as u64 * 0x1_0000_0000_0000
+}
 
 // What marking gives: the refusal, or 0 and the number of readings, 2^63 where it is that or more, and the mark.
 pub struct Marked {

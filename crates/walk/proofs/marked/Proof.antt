@@ -1,0 +1,69 @@
+-- A state goes into the set, a pair into both of its rows. Assumes nothing.
+use Prim.Native.Nat.{_/_, _%_}
+use native.Mathlib.Omega.{arith}
+use Rattle.walk.proofs.Nodes.{Places, node-sides}
+use Rattle.walk.proofs.Marking.{mark-one, mark-two}
+use borrow.Author.Needs.{needs}
+use Rattle.walk.proofs.marked.Statement.{statement}
+use Rattle.walk.proofs.marked.Tie as tie
+
+-- the two positions of a pair are rows of the table
+bound : (c : tie.Else1) → Places (c .before .args .y / 64) (c .before .args .y % 64)
+bound c = node-sides (c .before .args .y) (c .before .pre) (c .if1 .left) .0
+
+with-requires : tie.Need-with-requires
+with-requires c κs = search needs
+
+returns : tie.Need-returns
+returns c = mark-one (c .before .before .args .w) (c .before .before .args .y) (c .with .result) (c .before .if1 .taken) (c .with .ensures)
+
+mul-with : tie.Need-mul-with
+mul-with c = search needs
+
+element-copy-out-with : tie.Need-element-copy-out-with
+element-copy-out-with c = omega (arith, bound c)
+
+with-requires-2 : tie.Need-with-requires-2
+with-requires-2 c κs = search needs
+
+mul-r : tie.Need-mul-r
+mul-r c = search needs
+
+element-write-r : tie.Need-element-write-r
+element-write-r c = omega (arith, bound (c .before .before))
+
+mul-with-2 : tie.Need-mul-with-2
+mul-with-2 c = search needs
+
+element-copy-out-with-2 : tie.Need-element-copy-out-with-2
+element-copy-out-with-2 c = omega (arith, bound (c .before .before))
+
+with-requires-3 : tie.Need-with-requires-3
+with-requires-3 c κs = omega (arith, bound (c .before .before .before))
+
+mul-r-2 : tie.Need-mul-r-2
+mul-r-2 c = search needs
+
+element-write-r-2 : tie.Need-element-write-r-2
+element-write-r-2 c = omega (arith, bound (c .before .before .before .before))
+
+returns-2 : tie.Need-returns-2
+returns-2 c = mark-two (c .before .before .before .before .before .args .w) (c .before .before .before .before .before .args .y) (c .before .before .with2 .result) (c .with3 .result) (c .before .before .before .before .before .pre) (c .before .before .before .before .if1 .left) (c .before .before .with2 .ensures) (c .with3 .ensures)
+
+pub marked-spec : {M : Type 1} → statement M
+marked-spec =
+    tie.close
+    (tie.spec
+    with-requires
+    returns
+    mul-with
+    element-copy-out-with
+    with-requires-2
+    mul-r
+    element-write-r
+    mul-with-2
+    element-copy-out-with-2
+    with-requires-3
+    mul-r-2
+    element-write-r-2
+    returns-2)
