@@ -5,9 +5,9 @@ use mathlib.Core.List.{List}
 use Prim.Native.Nat.{ℕ, _^_, _≤_, _<_, min}
 use lib.Dec.{eqb, ltb}
 use lib.ListN.{length}
-use borrow.Author.Tests.{eq-eqb, ne-eqb, lt-ltb, le-ltb}
+use borrow.Author.Tests.{eqb-true, eq-eqb, ne-eqb, lt-ltb, le-ltb}
 use Rattle.basics.specs.Choice.{if_then_else_}
-use Rattle.basics.proofs.Tests.{if-yes, if-no}
+use Rattle.basics.proofs.Tests.{by-test, if-yes, if-no}
 use Rattle.letters.specs.Alphabet.{allLetters}
 use Rattle.graph.specs.Graph.{Graph, noGraph}
 use Rattle.graph.specs.Readings.{readings, mark}
@@ -44,6 +44,10 @@ module _ (s a : List ℕ) where
 
   pub accepted : patternFault s ≡ 0 → length a ≤ 4096 → allLetters a ≡ true → markFault s a ≡ 0
   accepted e l y = by-letters e l ∙ if-no {A = ℕ} 10 0 (not (allLetters a)) (ap not y)
+
+  -- where no refusal applies, none of the pattern's does
+  pub pattern-accepted : markFault s a ≡ 0 → patternFault s ≡ 0
+  pattern-accepted f = by-test (eqb (patternFault s) 0) (eqb-true (patternFault s) 0) (λ n. sym (if-yes (patternFault s) of-answer (not (eqb (patternFault s) 0)) (ap not n)) ∙ f)
 
   -- ---- what is promised
 
