@@ -50,9 +50,9 @@ module _ (b s : List ℕ) (r : Marked) (says : MarkSays b s r) (given : r .refus
   -- "An answer has a reading exactly when it belongs to the pattern's texts."
   pub counts-exactly-texts : Text (patternPart b) s ↔ (1 ≤ r .count)
   counts-exactly-texts = (
-      λ t. let p = texts-are-readings b s accepted .0 t in let l = reading-counts (patternGraph b) s (p .0) (p .1) in let e = cut in omega arith,
-      λ l. texts-are-readings b s accepted .1 (count-reading (patternGraph b) s (some l)),
-    )
+    λ t. let p = texts-are-readings b s accepted .0 t in let l = reading-counts (patternGraph b) s (p .0) (p .1) in let e = cut in omega arith,
+    λ l. texts-are-readings b s accepted .1 (count-reading (patternGraph b) s (some l)),
+  )
 
   -- "The count is the true one or 2^63": some list has all readings, each of them once, and r counts it up to 2^63.
   pub count-of-call : (rs : List (List ℕ)) × Apart rs × ((q : List ℕ) → In q rs ↔ (isReading (patternGraph b) s q ≡ true)) × (r .count ≡ min (length rs) (2 ^ 63))
