@@ -49,13 +49,16 @@ VetBy (suc k) s e e′ w w′ r = Declined (suc k) e e′ w w′ r
 abbrev pub VetSays : List ℕ → List ℕ → List ℕ → List ℕ → List ℕ → Vetted → Type 0
 VetSays s e e′ w w′ r = VetBy (vetFault s (length e) (length w)) s e e′ w w′ r
 
--- for C, with scratch of the library's own: the refusal in bits 0 to 7, the verdict in 8 to 15, p in 16 to 23, the lengths in 24 to
--- 35, 36 to 47 and 48 to 59
+-- for C: the refusal in bits 0 to 7, the verdict in 8 to 15, p in 16 to 23, the lengths in 24 to 35, 36 to 47 and 48 to 59
 abbrev pub vetPacked : Vetted → ℕ
 vetPacked r = r .refusal + r .verdict * 2 ^ 8 + r .places * 2 ^ 16 + r .first * 2 ^ 24 + r .second * 2 ^ 36 + r .third * 2 ^ 48
 
-pub record VetForC (s e e′ : List ℕ) (packed : ℕ) : Type 0 where
-  pub scratch : List ℕ
+pub record VetForC (s e e′ w w′ : List ℕ) (packed : ℕ) : Type 0 where
   pub vetted : Vetted
-  pub says : VetSays s e e′ (replicate 8192 0) scratch vetted
+  pub says : VetSays s e e′ w w′ vetted
   pub packing : packed ≡ vetPacked vetted
+
+-- the same where the library brings the scratch
+pub record VetAlone (s e e′ : List ℕ) (packed : ℕ) : Type 0 where
+  pub scratch : List ℕ
+  pub vets : VetForC s e e′ (replicate 8192 0) scratch packed

@@ -5,7 +5,7 @@ ghost use Prim.Native.Nat.{_<_, _^_};
 ghost use lib.Dec.{eqb};
 ghost use Rattle.basics.specs.Choice.{if_then_else_};
 ghost use Rattle.marking.specs.Marking.{MarkSays, markPacked, countAfter};
-ghost use Rattle.marking.specs.Vetting.{VetSays, VetForC, refused, vetPacked};
+ghost use Rattle.marking.specs.Vetting.{VetSays, VetForC, VetAlone, refused, vetPacked};
 
 // What vetting gives: the refusal, or 0 and the verdict (0 single, 1 steady, 2 runaway), the number of positions, and the lengths
 // of the texts at the beginning of the evidence.
@@ -60,15 +60,23 @@ fn no_verdict(refusal: u8) -> Vetted
     }
 }
 
-// The same for C, with scratch of its own, and one number for the result: the refusal in bits 0 to 7, the verdict in 8 to 15, the
-// number of positions in 16 to 23, the lengths in 24 to 35, 36 to 47 and 48 to 59.
+// The same for C, with one number for the result: the refusal in bits 0 to 7, the verdict in 8 to 15, the number of positions in
+// 16 to 23, the lengths in 24 to 35, 36 to 47 and 48 to 59.
+#[no_mangle]
+pub extern "C" fn marking_vet_in(pattern: &[u8], evidence: &mut [u8], scratch: &mut [u16]) -> u64
+    ensures { λ r. ⌜ VetForC (now (pattern .entry)) (now (evidence .entry)) (now (evidence .exit)) (now (scratch .entry)) (now (scratch .exit)) r ⌝ }
+{
+    let v = vet_pattern(pattern, &mut *evidence, &mut *scratch);
+    packed(v)
+}
+
+// The same with scratch of its own.
 #[no_mangle]
 pub extern "C" fn marking_vet(pattern: &[u8], evidence: &mut [u8]) -> u64
-    ensures { λ r. ⌜ VetForC (now (pattern .entry)) (now (evidence .entry)) (now (evidence .exit)) r ⌝ }
+    ensures { λ r. ⌜ VetAlone (now (pattern .entry)) (now (evidence .entry)) (now (evidence .exit)) r ⌝ }
 {
     let mut scratch = [0u16; 8192];
-    let v = vet_pattern(pattern, &mut *evidence, &mut scratch);
-    packed(v)
+    marking_vet_in(pattern, &mut *evidence, &mut scratch)
 }
 
 // A result as one number.

@@ -1,0 +1,199 @@
+//! The library against unverified Rust programs, on the same input in one run. Every figure is the best of several rounds, and the
+//! ratios are what counts. The results of both sides are compared as well.
+
+mod plain;
+
+use std::hint::black_box;
+use std::time::Instant;
+
+extern "C" {
+    fn marking_vet(pattern: *const u8, pattern_len: usize, evidence: *mut u8, evidence_len: usize) -> u64;
+    fn marking_mark(pattern: *const u8, pattern_len: usize, answer: *const u8, answer_len: usize, count: *mut u64) -> u64;
+}
+
+fn mark(pattern: &[u8], answer: &[u8]) -> Result<(u64, u32), u8> {
+    let mut count = 0;
+    let r = unsafe { marking_mark(pattern.as_ptr(), pattern.len(), answer.as_ptr(), answer.len(), &mut count) };
+    match (r >> 32) as u8 {
+        0 => Ok((count, r as u32)),
+        n => Err(n),
+    }
+}
+
+fn vet(pattern: &[u8], evidence: &mut [u8; 4096]) -> u64 {
+    unsafe { marking_vet(pattern.as_ptr(), pattern.len(), evidence.as_mut_ptr(), evidence.len()) }
+}
+
+/// Seconds of the best of some rounds.
+fn time(rounds: usize, mut f: impl FnMut()) -> f64 {
+    (0..rounds)
+        .map(|_| {
+            let t = Instant::now();
+            f();
+            t.elapsed().as_secs_f64()
+        })
+        .fold(f64::MAX, f64::min)
+}
+
+struct Load {
+    name: &'static str,
+    pattern: Vec<u8>,
+    answers: Vec<Vec<u8>>,
+}
+
+/// A small generator, so that every run has the same input.
+struct Random(u64);
+
+impl Random {
+    fn below(&mut self, n: usize) -> usize {
+        self.0 = self.0.wrapping_mul(6364136223846793005).wrapping_add(1442695040888963407);
+        (self.0 >> 33) as usize % n
+    }
+}
+
+fn loads() -> Vec<Load> {
+    let mut r = Random(1);
+    let mut text = |letters: &[u8], n: usize| -> Vec<u8> { (0..n).map(|_| letters[r.below(letters.len())]).collect() };
+    let branch = |atom: &str, n: usize| format!("({atom}|{atom})").repeat(n);
+    // 60 positions, each with two or four that may come next, in two branches of 13 and 17 steps: after some letters all are possible
+    let busy = |atom: &str| format!("({}|{})*", branch(atom, 13), branch(atom, 17)).into_bytes();
+    vec![
+        Load {
+            name: "every position possible, 4,096 letters",
+            pattern: busy("."),
+            answers: (0..20).map(|_| text(b"abcdefgh", 4096)).collect(),
+        },
+        Load {
+            name: "each letter held by some, 4,096 letters",
+            pattern: format!("({}|{}|{}|{})*", "[a-d]".repeat(13), "[c-f]".repeat(15), "[e-h]".repeat(16), "[a-h]".repeat(16)).into_bytes(),
+            answers: (0..20).map(|_| text(b"abcdefgh", 4096)).collect(),
+        },
+        Load {
+            name: "ordinary text, some 60 letters",
+            pattern: b"(th=1e|a=1) (qui=2ck|sl=1ow) (brown|red)? ?fox(es)? (jump(s|ed)?|ran) ove=1r .*".to_vec(),
+            answers: vec![
+                b"the quick brown fox jumped over the lazy dog near the river".to_vec(),
+                b"a slow fox ran over a hill and was never seen again by us".to_vec(),
+                b"the quick red foxes jumps over them and then over the fence".to_vec(),
+                b"teh quick brown fox jumped over the lazy dog near the river".to_vec(),
+            ],
+        },
+    ]
+}
+
+fn marking() {
+    println!("marking                                        library   by sets  all pairs   /sets  /all pairs");
+    for l in loads() {
+        for a in &l.answers {
+            let got = mark(&l.pattern, a);
+            assert_eq!(got, plain::mark(&l.pattern, a));
+            assert_eq!(got, plain::mark_all_pairs(&l.pattern, a));
+        }
+        let n = if l.answers[0].len() > 1000 { 1 } else { 500 };
+        let run = |f: fn(&[u8], &[u8]) -> Result<(u64, u32), u8>, n: usize| {
+            time(7, || {
+                for _ in 0..n {
+                    for a in &l.answers {
+                        let _ = black_box(f(black_box(&l.pattern), black_box(a)));
+                    }
+                }
+            }) / (n * l.answers.len()) as f64
+        };
+        let lib = run(mark, n);
+        let sets = run(plain::mark, n);
+        let pairs = run(plain::mark_all_pairs, n.div_ceil(10));
+        println!("{:44} {:8.1} {:9.1} {:10.1}  {:6.2} {:8.3}", l.name, lib * 1e6, sets * 1e6, pairs * 1e6, lib / sets, lib / pairs);
+    }
+}
+
+fn patterns() -> Vec<(&'static str, Vec<Vec<u8>>)> {
+    let one = |s: String| vec![s.into_bytes()];
+    let mut nested = "a".to_string();
+    for k in 0..30 {
+        nested = if k % 2 == 0 { format!("({nested}b)*") } else { format!("(c{nested})*") };
+    }
+    let overlapping: String = (0..60).map(|i| format!("[{}-{}]*", (33 + i) as u8 as char, (60 + i) as u8 as char)).collect::<String>();
+    let overlapping: String = overlapping.chars().collect();
+    let distinct: String = (0..60u8).map(|i| if b"|*+?()[]{}^$.\\=".contains(&(33 + i)) { format!("\\{}", (33 + i) as char) } else { ((33 + i) as char).to_string() }).collect();
+    vec![
+        ("a* sixty times", one("a*".repeat(60))),
+        ("a? sixty times", one("a?".repeat(60))),
+        ("thirty nested repeats", one(nested)),
+        ("sixty overlapping classes", if overlapping.len() <= 512 { one(overlapping) } else { one("[a-p]*[b-q]*".repeat(30)) }),
+        ("sixty different positions in one repeat", one(format!("({distinct})*"))),
+        ("sixty alternatives in one repeat", one(format!("({})*", distinct_alternatives()))),
+        (
+            "ordinary patterns",
+            ["colou?r", "(a|a)b", "(a|b|ab)*c", "[a-z]+( [a-z]+)*", "(th=1e|a=1) (quic=2k|slow) fox(es)?", "[0-9][0-9]?/[0-9][0-9]?/[0-9][0-9][0-9][0-9]", ".*is.*", "(he|she|it) (has|had) (been )?(go|do)ing"]
+                .iter()
+                .map(|s| s.as_bytes().to_vec())
+                .collect(),
+        ),
+    ]
+}
+
+fn distinct_alternatives() -> String {
+    let l: Vec<String> = (0..60u8)
+        .map(|i| if b"|*+?()[]{}^$.\\=".contains(&(33 + i)) { format!("\\{}", (33 + i) as char) } else { ((33 + i) as char).to_string() })
+        .collect();
+    l.join("|")
+}
+
+fn vetting() {
+    println!("\nvetting                                        library     plain   ratio");
+    let mut search = plain::Search::new();
+    for (name, list) in patterns() {
+        let mut evidence = [0u8; 4096];
+        for p in &list {
+            let r = vet(p, &mut evidence);
+            match plain::vet(p, &mut search) {
+                Err(n) => assert_eq!(r, u64::from(n)),
+                Ok((v, places, ..)) => {
+                    assert_eq!(((r >> 8) as u8, (r >> 16) as u8 as usize), (v, places), "{}", String::from_utf8_lossy(p));
+                }
+            }
+        }
+        let n = if list.len() > 1 { 300 } else { 5 };
+        let lib = time(7, || {
+            for _ in 0..n {
+                for p in &list {
+                    black_box(vet(black_box(p), &mut evidence));
+                }
+            }
+        }) / (n * list.len()) as f64;
+        let plain = time(7, || {
+            for _ in 0..n {
+                for p in &list {
+                    let _ = black_box(plain::vet(black_box(p), &mut search));
+                }
+            }
+        }) / (n * list.len()) as f64;
+        println!("{:44} {:8.1} {:9.1}  {:6.2}", name, lib * 1e6, plain * 1e6, lib / plain);
+    }
+}
+
+/// Reading alone: a mark of the empty answer.
+fn reading() {
+    println!("\nreading, by a mark of the empty answer         library     plain   ratio");
+    for (name, list) in patterns() {
+        let n = 200;
+        let run = |f: fn(&[u8], &[u8]) -> Result<(u64, u32), u8>| {
+            time(7, || {
+                for _ in 0..n {
+                    for p in &list {
+                        let _ = black_box(f(black_box(p), b""));
+                    }
+                }
+            }) / (n * list.len()) as f64
+        };
+        let (lib, plain) = (run(mark), run(plain::mark));
+        println!("{:44} {:8.2} {:9.2}  {:6.2}", name, lib * 1e6, plain * 1e6, lib / plain);
+    }
+}
+
+fn main() {
+    println!("microseconds a call; both sides are release builds\n");
+    marking();
+    vetting();
+    reading();
+}

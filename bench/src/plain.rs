@@ -1,0 +1,438 @@
+//! The same work without proofs: a reader of patterns into sets, marking by sets, marking by all pairs of positions without sets,
+//! and the same search for a verdict. It is what the library is measured against.
+
+#[derive(Clone)]
+pub struct Built {
+    pub places: usize,
+    pub follow: [u64; 61],
+    pub lasts: u64,
+    pub letters: [u128; 61],
+    pub credits: [u8; 61],
+}
+
+struct Reader<'a> {
+    text: &'a [u8],
+    at: usize,
+    built: Built,
+    reversed: bool,
+    hollow: bool,
+    places: usize,
+}
+
+#[derive(Clone, Copy)]
+struct Part {
+    empty: bool,
+    firsts: u64,
+    lasts: u64,
+}
+
+const SPECIAL: &[u8] = b"|*+?()[]{}^$.\\=";
+const ALL: u128 = ((1u128 << 127) - 1) & !((1u128 << 32) - 1);
+
+impl Reader<'_> {
+    fn peek(&self) -> u8 {
+        *self.text.get(self.at).unwrap_or(&0)
+    }
+
+    fn link(&mut self, lasts: u64, firsts: u64) {
+        let mut left = lasts;
+        while left != 0 {
+            self.built.follow[left.trailing_zeros() as usize] |= firsts;
+            left &= left - 1;
+        }
+    }
+
+    fn pattern(&mut self) -> Option<Part> {
+        let mut all = self.branch()?;
+        while self.peek() == b'|' {
+            self.at += 1;
+            let b = self.branch()?;
+            all = Part { empty: all.empty | b.empty, firsts: all.firsts | b.firsts, lasts: all.lasts | b.lasts };
+        }
+        Some(all)
+    }
+
+    fn branch(&mut self) -> Option<Part> {
+        let mut a = self.piece()?;
+        while self.at < self.text.len() && self.peek() != b'|' && self.peek() != b')' {
+            let b = self.piece()?;
+            self.link(a.lasts, b.firsts);
+            a = Part {
+                empty: a.empty & b.empty,
+                firsts: a.firsts | if a.empty { b.firsts } else { 0 },
+                lasts: b.lasts | if b.empty { a.lasts } else { 0 },
+            };
+        }
+        Some(a)
+    }
+
+    fn piece(&mut self) -> Option<Part> {
+        let mut a = if self.peek() == b'(' {
+            self.at += 1;
+            let a = self.pattern()?;
+            if self.peek() != b')' {
+                return None;
+            }
+            self.at += 1;
+            a
+        } else {
+            self.lettered()?
+        };
+        match self.peek() {
+            b'?' => {
+                self.at += 1;
+                a.empty = true;
+            }
+            k @ (b'*' | b'+') => {
+                self.at += 1;
+                self.link(a.lasts, a.firsts);
+                a.empty |= k == b'*';
+            }
+            _ => {}
+        }
+        Some(a)
+    }
+
+    fn class_letter(&mut self) -> Option<u8> {
+        let b = *self.text.get(self.at)?;
+        if b == b'\\' {
+            let c = *self.text.get(self.at + 1)?;
+            if !b"[]\\^-".contains(&c) {
+                return None;
+            }
+            self.at += 2;
+            return Some(c);
+        }
+        if b"[]\\^-".contains(&b) {
+            return None;
+        }
+        self.at += 1;
+        Some(b)
+    }
+
+    fn class(&mut self) -> Option<u128> {
+        let others = self.peek() == b'^';
+        self.at += usize::from(others);
+        let mut set = 0u128;
+        let mut items = 0;
+        while let Some(a) = self.class_letter() {
+            let mut b = a;
+            if self.peek() == b'-' {
+                self.at += 1;
+                b = self.class_letter()?;
+            }
+            if a <= b {
+                set |= ((1u128 << b << 1) - 1) & !((1u128 << a) - 1);
+            } else {
+                self.reversed = true;
+            }
+            items += 1;
+        }
+        if items == 0 || self.peek() != b']' {
+            return None;
+        }
+        self.at += 1;
+        Some(if others { ALL & !set } else { set })
+    }
+
+    fn lettered(&mut self) -> Option<Part> {
+        let b = *self.text.get(self.at)?;
+        self.at += 1;
+        let set = match b {
+            b'[' => self.class()?,
+            b'.' => ALL,
+            b'\\' => {
+                let c = self.peek();
+                if !SPECIAL.contains(&c) {
+                    return None;
+                }
+                self.at += 1;
+                1 << c
+            }
+            _ if SPECIAL.contains(&b) => return None,
+            _ => 1 << b,
+        };
+        let mut credit = 0;
+        if self.peek() == b'=' {
+            self.at += 1;
+            let d = self.peek();
+            if !(b'1'..=b'9').contains(&d) {
+                return None;
+            }
+            self.at += 1;
+            credit = d - b'0';
+        }
+        self.hollow |= set == 0;
+        self.places += 1;
+        let mut bit = 0;
+        if self.places <= 60 {
+            self.built.letters[self.places] = set;
+            self.built.credits[self.places] = credit;
+            bit = 1 << self.places;
+        }
+        Some(Part { empty: false, firsts: bit, lasts: bit })
+    }
+}
+
+pub fn read(text: &[u8]) -> Result<Built, u8> {
+    if text.len() > 512 {
+        return Err(3);
+    }
+    if text.iter().any(|b| !(32..=126).contains(b)) {
+        return Err(4);
+    }
+    let built = Built { places: 0, follow: [0; 61], lasts: 0, letters: [0; 61], credits: [0; 61] };
+    let mut r = Reader { text, at: 0, built, reversed: false, hollow: false, places: 0 };
+    let Some(part) = r.pattern().filter(|_| r.at == text.len()) else { return Err(5) };
+    if r.reversed {
+        return Err(6);
+    }
+    if r.hollow {
+        return Err(7);
+    }
+    if r.places > 60 {
+        return Err(8);
+    }
+    r.built.places = r.places;
+    r.built.follow[0] = part.firsts;
+    r.built.lasts = part.lasts | u64::from(part.empty);
+    Ok(r.built)
+}
+
+fn plus(a: u64, b: u64) -> u64 {
+    (a.saturating_add(b)).min(1 << 63)
+}
+
+/// Marking by sets.
+pub fn mark(text: &[u8], answer: &[u8]) -> Result<(u64, u32), u8> {
+    let b = read(text)?;
+    if answer.len() > 4096 {
+        return Err(9);
+    }
+    if answer.iter().any(|c| !(32..=126).contains(c)) {
+        return Err(10);
+    }
+    let mut before = [0u64; 61];
+    for u in 0..=b.places {
+        let mut left = b.follow[u];
+        while left != 0 {
+            before[left.trailing_zeros() as usize] |= 1 << u;
+            left &= left - 1;
+        }
+    }
+    let mut holders = [0u64; 128];
+    for i in 1..=b.places {
+        let mut left = b.letters[i];
+        while left != 0 {
+            holders[left.trailing_zeros() as usize] |= 1 << i;
+            left &= left - 1;
+        }
+    }
+    let mut counts = [[0u64; 61]; 2];
+    let mut best = [[0u32; 61]; 2];
+    counts[0][0] = 1;
+    let mut active = 1u64;
+    let mut row = 0;
+    for c in answer {
+        let mut left = holders[*c as usize & 127];
+        let mut next = 0;
+        while left != 0 {
+            let i = left.trailing_zeros() as usize;
+            left &= left - 1;
+            let mut from = before[i] & active;
+            if from == 0 {
+                continue;
+            }
+            next |= 1 << i;
+            let (mut n, mut m) = (0, 0);
+            while from != 0 {
+                let u = from.trailing_zeros() as usize;
+                from &= from - 1;
+                n = plus(n, counts[row][u]);
+                m = m.max(best[row][u]);
+            }
+            counts[1 - row][i] = n;
+            best[1 - row][i] = m + u32::from(b.credits[i]);
+        }
+        active = next;
+        row = 1 - row;
+        if active == 0 {
+            return Ok((0, 0));
+        }
+    }
+    let (mut n, mut m) = (0, 0);
+    let mut left = active & b.lasts;
+    while left != 0 {
+        let u = left.trailing_zeros() as usize;
+        left &= left - 1;
+        n = plus(n, counts[row][u]);
+        m = m.max(best[row][u]);
+    }
+    Ok((n, m))
+}
+
+/// Marking by trying all pairs of positions at each letter, without sets.
+pub fn mark_all_pairs(text: &[u8], answer: &[u8]) -> Result<(u64, u32), u8> {
+    let b = read(text)?;
+    if answer.len() > 4096 {
+        return Err(9);
+    }
+    if answer.iter().any(|c| !(32..=126).contains(c)) {
+        return Err(10);
+    }
+    let mut follow = [[false; 61]; 61];
+    let mut holds = [[false; 61]; 128];
+    for u in 0..61 {
+        for i in 1..61 {
+            follow[u][i] = b.follow[u] >> i & 1 == 1;
+        }
+        for (c, row) in holds.iter_mut().enumerate() {
+            row[u] = b.letters[u] >> c & 1 == 1;
+        }
+    }
+    let mut counts = [0u64; 61];
+    let mut best = [None::<u32>; 61];
+    counts[0] = 1;
+    best[0] = Some(0);
+    for c in answer {
+        let held = &holds[*c as usize & 127];
+        let mut new_counts = [0u64; 61];
+        let mut new_best = [None::<u32>; 61];
+        for i in 1..=b.places {
+            for u in 0..=b.places {
+                if follow[u][i] && held[i] {
+                    new_counts[i] = plus(new_counts[i], counts[u]);
+                    if let Some(m) = best[u] {
+                        new_best[i] = new_best[i].max(Some(m + u32::from(b.credits[i])));
+                    }
+                }
+            }
+        }
+        counts = new_counts;
+        best = new_best;
+    }
+    let (mut n, mut m) = (0, 0);
+    for u in 0..=b.places {
+        if b.lasts >> u & 1 == 1 {
+            n = plus(n, counts[u]);
+            m = m.max(best[u].unwrap_or(0));
+        }
+    }
+    Ok((n, m))
+}
+
+/// The search for a verdict: pairs unordered, breadth first, a queue with predecessors.
+pub struct Search {
+    queue: [u16; 2048],
+    from: [u16; 2048],
+    seen: [u64; 61],
+    alone: u64,
+    tail: usize,
+}
+
+impl Search {
+    pub fn new() -> Self {
+        Search { queue: [0; 2048], from: [0; 2048], seen: [0; 61], alone: 0, tail: 0 }
+    }
+
+    fn push(&mut self, node: u16, from: usize) {
+        self.queue[self.tail] = node;
+        self.from[self.tail] = from as u16;
+        self.tail += 1;
+    }
+
+    /// The queue number of the first goal, if there is one.
+    fn run(&mut self, b: &Built, shares: &[u64; 61], start: usize, goal: u64, parted: bool) -> Option<usize> {
+        self.seen = [0; 61];
+        self.alone = 1 << start;
+        self.tail = 0;
+        self.push(start as u16, 0);
+        if !parted && goal >> start & 1 == 1 {
+            return Some(0);
+        }
+        let mut head = 0;
+        while head < self.tail {
+            let node = self.queue[head] as usize;
+            let (c, d) = if node < 64 { (node, node) } else { (node / 64, node % 64) };
+            let mut left = b.follow[c];
+            while left != 0 {
+                let a = left.trailing_zeros() as usize;
+                left &= left - 1;
+                let mut with = b.follow[d] & shares[a] & !self.seen[a];
+                if node < 64 {
+                    with &= !(1 << a);
+                    if self.alone >> a & 1 == 0 {
+                        self.alone |= 1 << a;
+                        self.push(a as u16, head);
+                        if !parted && goal >> a & 1 == 1 {
+                            return Some(self.tail - 1);
+                        }
+                    }
+                }
+                while with != 0 {
+                    let e = with.trailing_zeros() as usize;
+                    with &= with - 1;
+                    self.seen[a] |= 1 << e;
+                    self.seen[e] |= 1 << a;
+                    self.push((a.max(e) * 64 + a.min(e)) as u16, head);
+                    if parted && goal >> a & 1 == 1 && goal >> e & 1 == 1 {
+                        return Some(self.tail - 1);
+                    }
+                }
+            }
+            head += 1;
+        }
+        None
+    }
+
+    /// The text that leads to a node of the queue, put at the end of out.
+    fn text(&self, b: &Built, mut at: usize, out: &mut Vec<u8>) {
+        let begin = out.len();
+        while at != 0 {
+            let node = self.queue[at] as usize;
+            let (c, d) = if node < 64 { (node, node) } else { (node / 64, node % 64) };
+            out.push((b.letters[c] & b.letters[d]).trailing_zeros() as u8);
+            at = self.from[at] as usize;
+        }
+        out[begin..].reverse();
+    }
+}
+
+impl Default for Search {
+    fn default() -> Self {
+        Self::new()
+    }
+}
+
+pub fn vet(text: &[u8], s: &mut Search) -> Result<(u8, usize, [usize; 3], Vec<u8>), u8> {
+    let b = read(text)?;
+    let mut shares = [0u64; 61];
+    for i in 1..=b.places {
+        for j in 1..=b.places {
+            if b.letters[i] & b.letters[j] != 0 {
+                shares[i] |= 1 << j;
+            }
+        }
+    }
+    let mut out = Vec::new();
+    let none = [0u64; 61];
+    for q in 1..=b.places {
+        if s.run(&b, &shares, q, 1 << q, true).is_some() {
+            let at = s.run(&b, &none, 0, 1 << q, false).unwrap_or(0);
+            s.text(&b, at, &mut out);
+            let x = out.len();
+            let at = s.run(&b, &shares, q, 1 << q, true).unwrap_or(0);
+            s.text(&b, at, &mut out);
+            let y = out.len() - x;
+            let at = s.run(&b, &none, q, b.lasts, false).unwrap_or(0);
+            s.text(&b, at, &mut out);
+            let z = out.len() - x - y;
+            return Ok((2, b.places, [x, y, z], out));
+        }
+    }
+    if let Some(at) = s.run(&b, &shares, 0, b.lasts, true) {
+        s.text(&b, at, &mut out);
+        return Ok((1, b.places, [out.len(), 0, 0], out));
+    }
+    Ok((0, b.places, [0, 0, 0], out))
+}

@@ -1,0 +1,251 @@
+//! Tests of the library against the paper: specimens, edges of every refusal, and random patterns and answers against an
+//! independent model. The last line is 'N passed, M failed'. Arguments: how many random patterns, and a seed.
+
+mod library;
+mod model;
+mod posix;
+mod random;
+
+use library::{mark, vet, Marked, Vetted};
+use random::Random;
+
+struct Tally {
+    passed: u64,
+    failed: u64,
+}
+
+impl Tally {
+    fn check(&mut self, right: bool, what: impl Fn() -> String) {
+        if right {
+            self.passed += 1;
+        } else {
+            self.failed += 1;
+            if self.failed <= 20 {
+                println!("FAILED: {}", what());
+            }
+        }
+    }
+
+    fn same<T: PartialEq + std::fmt::Debug>(&mut self, got: T, want: T, what: &str) {
+        self.check(got == want, || format!("{what}: got {got:?}, want {want:?}"));
+    }
+}
+
+fn show(b: &[u8]) -> String {
+    String::from_utf8_lossy(b).into_owned()
+}
+
+const EVIDENCE: usize = 4096;
+const MOST: u64 = 1 << 63;
+
+fn refuses(t: &mut Tally, pattern: &[u8], refusal: u8) {
+    let name = format!("{} ({} bytes)", show(&pattern[..pattern.len().min(40)]), pattern.len());
+    t.same(vet(pattern, EVIDENCE, 7), Ok(Vetted::Refused(refusal)), &format!("vet {name}"));
+    t.same(mark(pattern, b""), Ok(Marked::Refused(refusal)), &format!("mark {name}"));
+}
+
+fn verdict_is(t: &mut Tally, pattern: &[u8], verdict: u8) {
+    let got = vet(pattern, EVIDENCE, 3);
+    let found = match &got {
+        Ok(Vetted::Verdict { verdict, .. }) => *verdict,
+        _ => 99,
+    };
+    t.check(found == verdict, || format!("vet {}: {got:?}, want verdict {verdict}", show(pattern)));
+    if let Ok(p) = model::read(pattern) {
+        evidence(t, pattern, &p, verdict);
+    }
+}
+
+fn marks(t: &mut Tally, pattern: &[u8], answer: &[u8], count: u64, best: u32) {
+    let name = format!("mark {} on {} letters {}", show(pattern), answer.len(), show(&answer[..answer.len().min(20)]));
+    t.same(mark(pattern, answer), Ok(Marked::Answer { count, mark: best }), &name);
+}
+
+/// What a verdict shows, checked by counting readings in the model.
+fn evidence(t: &mut Tally, pattern: &[u8], p: &model::Pattern, verdict: u8) {
+    let n = p.positions.len();
+    let Ok(Vetted::Verdict { verdict: got, places, texts }) = vet(pattern, EVIDENCE, pattern.len() as u8) else {
+        t.check(false, || format!("vet {}: no verdict", show(pattern)));
+        return;
+    };
+    t.check(got == verdict && places == n, || format!("vet {}: verdict {got} and {places}, want {verdict} and {n}", show(pattern)));
+    let most = (n * n + n).min(4096);
+    let [x, y, z] = &texts[..] else { unreachable!() };
+    t.check(texts.concat().iter().all(|b| model::is_letter(*b)), || format!("vet {}: evidence is no text", show(pattern)));
+    match verdict {
+        0 => t.check(x.is_empty() && y.is_empty() && z.is_empty(), || format!("vet {}: evidence for single", show(pattern))),
+        1 => {
+            t.check(x.len() <= most && y.is_empty() && z.is_empty(), || format!("vet {}: lengths", show(pattern)));
+            t.check(p.count_from_the_end(x, 2) >= 2, || format!("vet {}: {} has no two readings", show(pattern), show(x)));
+            lowest_for_two(t, pattern, p, x, &[], &[]);
+        }
+        _ => {
+            t.check(x.len() <= n && !x.is_empty() && z.len() <= n && !y.is_empty() && y.len() <= most, || format!("vet {}: lengths", show(pattern)));
+            let mut text = x.clone();
+            for k in 0..=8u32 {
+                let whole = [text.clone(), z.clone()].concat();
+                t.check(p.count_from_the_end(&whole, 1 << 40) >= 1 << k, || format!("vet {}: fewer than 2^{k} readings", show(pattern)));
+                text.extend(y);
+            }
+            lowest_for_two(t, pattern, p, x, y, z);
+        }
+    }
+}
+
+/// There are two different readings over x y z, along which each letter is the lowest that both sets hold; for a runaway
+/// pattern both are at the first pivot after x and after y, and are one path in x and in z.
+fn lowest_for_two(t: &mut Tally, pattern: &[u8], p: &model::Pattern, x: &[u8], y: &[u8], z: &[u8]) {
+    let text = [x, y, z].concat();
+    let Some(all) = p.readings(&text, 3000) else { return };
+    let pivot = if y.is_empty() { 0 } else { p.first_pivot() };
+    let (from, to) = (x.len(), x.len() + y.len());
+    let lowest = |a: usize, b: usize| p.positions[a - 1].letters.intersection(&p.positions[b - 1].letters).next().copied();
+    let fits = |a: &Vec<usize>, b: &Vec<usize>| {
+        a != b
+            && (0..text.len()).all(|i| lowest(a[i], b[i]) == Some(text[i]))
+            && (pivot == 0 || (a[..from] == b[..from] && a[to..] == b[to..] && a[from - 1] == pivot && a[to - 1] == pivot && b[to - 1] == pivot))
+    };
+    t.check(all.iter().any(|a| all.iter().any(|b| fits(a, b))), || format!("vet {}: no two such readings of {}", show(pattern), show(&text)));
+}
+
+fn specimens(t: &mut Tally) {
+    verdict_is(t, b"(a|a)b", 1);
+    marks(t, b"(a|a)b", b"ab", 2, 0);
+    marks(t, b"(a|a)b", b"b", 0, 0);
+    verdict_is(t, b"a*a*", 1);
+    marks(t, b"a*a*", b"aaa", 4, 0);
+    verdict_is(t, b"(a|a)*", 2);
+    marks(t, b"(a|a)*", b"aaa", 8, 0);
+    for (n, count) in [(62, 1 << 62), (63, MOST), (64, MOST), (4096, MOST)] {
+        marks(t, b"(a|a)*", &vec![b'a'; n], count, 0);
+    }
+    verdict_is(t, b"(a*)*", 0);
+    marks(t, b"(a*)*", b"aaa", 1, 0);
+    verdict_is(t, b"[a-l]*[m-z]*", 0);
+    marks(t, b"[a-l]*[m-z]*", b"am", 1, 0);
+    verdict_is(t, b"[a-m]*[m-z]*", 1);
+    marks(t, b"[a-m]*[m-z]*", b"m", 2, 0);
+    marks(t, b"a=2b|ab=3", b"ab", 2, 3);
+    marks(t, b"(a=1|a)*", b"aaa", 8, 3);
+    marks(t, b"a?", b"", 1, 0);
+    for p in [&b""[..], b"()", b"a**"] {
+        refuses(t, p, 5);
+    }
+    refuses(t, b"[z-a]", 6);
+    refuses(t, b"[^ -~]", 7);
+    verdict_is(t, &[b'a'; 60], 0);
+    refuses(t, &[b'a'; 61], 8);
+    let class = |n: usize| [&b"["[..], &vec![b'a'; n], b"]"].concat();
+    verdict_is(t, &class(510), 0);
+    refuses(t, &class(511), 3);
+    marks(t, b"a*", &[b'a'; 4096], 1, 0);
+    marks(t, b"a=9*", &[b'a'; 4096], 1, 9 * 4096);
+    t.same(mark(b"a*", &[b'a'; 4097]), Ok(Marked::Refused(9)), "4,097 letters");
+    t.same(vet(b"a", 4095, 1), Ok(Vetted::Refused(1)), "4,095 bytes of evidence");
+    t.same(vet(b"a", 0, 1), Ok(Vetted::Refused(1)), "no evidence");
+    for (p, v) in [(&b"colou?r"[..], 0), (b"(a|b|ab)*c", 2), (b"(ab*)*", 0), (b"(a*b*)*", 0), (b"(a*a)*", 2), (b".*.*", 1), (b"(a|b)*abb", 0)] {
+        verdict_is(t, p, v);
+    }
+    refuses(t, b"a)", 5);
+}
+
+/// Both sides of each refusal's edge, and the order in which they are checked.
+fn edges(t: &mut Tally) {
+    for b in 0..=255u8 {
+        let want = model::read(&[b]).err().unwrap_or(0);
+        let got = match vet(&[b], EVIDENCE, b) {
+            Ok(Vetted::Refused(r)) => r,
+            Ok(_) => 0,
+            Err(_) => 99,
+        };
+        t.same(got, want, &format!("byte {b} as a pattern"));
+        let class = [b'[', b, b']'];
+        let got = match vet(&class, EVIDENCE, b) {
+            Ok(Vetted::Refused(r)) => r,
+            Ok(_) => 0,
+            Err(_) => 99,
+        };
+        t.same(got, model::read(&class).err().unwrap_or(0), &format!("byte {b} in a class"));
+        let want = if model::is_letter(b) { Marked::Answer { count: 1, mark: 0 } } else { Marked::Refused(10) };
+        t.same(mark(b".", &[b]), Ok(want), &format!("byte {b} as an answer"));
+    }
+    let long = |n: usize, tail: &[u8]| [&vec![b'a'; n][..], tail].concat();
+    refuses(t, &long(61, b""), 8);
+    refuses(t, &long(61, b")"), 5);
+    refuses(t, &long(61, b"[z-a]"), 6);
+    refuses(t, &long(61, b"[^ -~]"), 7);
+    refuses(t, &long(61, b"[^ -~][z-a]"), 6);
+    refuses(t, &long(512, b""), 8);
+    refuses(t, &long(513, b""), 3);
+    refuses(t, &long(511, b"\x1f"), 4);
+    refuses(t, &long(512, b"\x1f"), 3);
+    refuses(t, b"(\x7f", 4);
+    refuses(t, &vec![b'('; 512], 5);
+    t.same(vet(b"(", 4095, 1), Ok(Vetted::Refused(1)), "refusal 1 before 5");
+    t.same(mark(b"[z-a]", &[10; 5000]), Ok(Marked::Refused(6)), "refusal 6 before 9");
+    t.same(mark(b"a", &[10; 4097]), Ok(Marked::Refused(9)), "refusal 9 before 10");
+    t.same(mark(b"a", &[10; 4096]), Ok(Marked::Refused(10)), "refusal 10");
+    let nested = [vec![b'('; 255], b"a".to_vec(), vec![b')'; 255]].concat();
+    verdict_is(t, &nested, 0);
+    let stars = b"a*".repeat(60);
+    verdict_is(t, &stars, 1);
+    marks(t, &stars, &[b'a'; 4096], MOST, 0);
+    let open = b"(a|".repeat(170);
+    refuses(t, &open, 5);
+}
+
+fn random_cases(t: &mut Tally, patterns: usize, seed: u64) {
+    println!("random patterns: {patterns}, seed {seed}");
+    let mut r = Random::new(seed);
+    for k in 0..patterns {
+        let wild = k % 3 == 0;
+        let text = random::pattern(&mut r, wild);
+        match model::read(&text) {
+            Err(refusal) => refuses(t, &text, refusal),
+            Ok(p) => {
+                if p.positions.len() <= 12 || k % 50 == 0 {
+                    evidence(t, &text, &p, p.verdict());
+                }
+                let regex = posix::Regex::new(&p);
+                t.check(regex.is_some(), || format!("regcomp of {}", show(&text)));
+                for _ in 0..3 {
+                    one_answer(t, &mut r, &text, &p, regex.as_ref());
+                }
+            }
+        }
+    }
+}
+
+fn one_answer(t: &mut Tally, r: &mut Random, text: &[u8], p: &model::Pattern, regex: Option<&posix::Regex>) {
+    let answer = random::answer(r, p);
+    let got = mark(text, &answer);
+    let name = || format!("mark {} on {}: {got:?}", show(text), show(&answer));
+    if answer.iter().any(|b| !model::is_letter(*b)) {
+        t.check(got == Ok(Marked::Refused(10)), name);
+        return;
+    }
+    let Ok(Marked::Answer { count, mark }) = got else {
+        t.check(false, name);
+        return;
+    };
+    if let Some(lists) = p.readings(&answer, 20_000) {
+        let best = lists.iter().map(|l| p.credit(l)).max().unwrap_or(0);
+        t.check(count == lists.len() as u64 && u64::from(mark) == best, || format!("{}; want {} and {best}", name(), lists.len()));
+    }
+    t.check(u128::from(count) == p.count_from_the_end(&answer, u128::from(MOST)), name);
+    if let Some(x) = regex {
+        t.check((count > 0) == x.matches(&answer), || format!("{}; regexec says {}", name(), x.matches(&answer)));
+    }
+}
+
+fn main() {
+    let args: Vec<String> = std::env::args().collect();
+    let patterns = args.get(1).map_or(20_000, |a| a.parse().expect("how many patterns"));
+    let seed = args.get(2).map_or(1, |a| a.parse().expect("a seed"));
+    let mut t = Tally { passed: 0, failed: 0 };
+    specimens(&mut t);
+    edges(&mut t);
+    random_cases(&mut t, patterns, seed);
+    println!("{} passed, {} failed", t.passed, t.failed);
+    std::process::exit(i32::from(t.failed > 0));
+}

@@ -1,0 +1,84 @@
+//! A second opinion on membership: the platform's regcomp and regexec, on the pattern written out as a POSIX extended
+//! expression with one bracket expression for each position.
+
+use crate::model::{Part, Pattern};
+use std::ffi::{c_char, c_int, c_void, CString};
+
+extern "C" {
+    fn regcomp(preg: *mut c_void, pattern: *const c_char, flags: c_int) -> c_int;
+    fn regexec(preg: *const c_void, text: *const c_char, n: usize, matches: *mut c_void, flags: c_int) -> c_int;
+    fn regfree(preg: *mut c_void);
+}
+
+const REG_EXTENDED: c_int = 1;
+const REG_NOSUB: c_int = 8;
+
+fn bracket(letters: impl Iterator<Item = u8>, out: &mut String) {
+    let set: Vec<u8> = letters.collect();
+    if set == *b"^" {
+        out.push_str("\\^");
+        return;
+    }
+    // `]` stands first, `^` not first, `-` first or last, and nothing after `[` makes a class name
+    let mut inner: Vec<u8> = set.iter().copied().filter(|b| *b == b']').collect();
+    inner.extend(set.iter().filter(|b| !b"]^-[".contains(b)));
+    inner.extend(set.iter().filter(|b| **b == b'['));
+    if inner.is_empty() && set.contains(&b'-') {
+        inner.push(b'-');
+    }
+    inner.extend(set.iter().filter(|b| **b == b'^'));
+    if set.contains(&b'-') && inner[0] != b'-' {
+        inner.push(b'-');
+    }
+    out.push('[');
+    out.extend(inner.into_iter().map(char::from));
+    out.push(']');
+}
+
+fn written(p: &Pattern, part: &Part, out: &mut String) {
+    out.push('(');
+    match part {
+        Part::Letter(i) => bracket(p.positions[*i - 1].letters.iter().copied(), out),
+        Part::Either(parts) => {
+            for (k, q) in parts.iter().enumerate() {
+                if k > 0 {
+                    out.push('|');
+                }
+                written(p, q, out);
+            }
+        }
+        Part::Joined(parts) => parts.iter().for_each(|q| written(p, q, out)),
+        Part::Repeat(k, q) => {
+            written(p, q, out);
+            out.push(*k as char);
+        }
+    }
+    out.push(')');
+}
+
+pub struct Regex {
+    memory: Box<[u64; 64]>,
+}
+
+impl Regex {
+    pub fn new(p: &Pattern) -> Option<Self> {
+        let mut text = String::from("^");
+        written(p, &p.tree, &mut text);
+        text.push('$');
+        let mut memory = Box::new([0u64; 64]);
+        let c = CString::new(text).ok()?;
+        let status = unsafe { regcomp(memory.as_mut_ptr().cast(), c.as_ptr(), REG_EXTENDED | REG_NOSUB) };
+        (status == 0).then_some(Regex { memory })
+    }
+
+    pub fn matches(&self, answer: &[u8]) -> bool {
+        let c = CString::new(answer).unwrap();
+        unsafe { regexec(self.memory.as_ptr().cast(), c.as_ptr(), 0, std::ptr::null_mut(), 0) == 0 }
+    }
+}
+
+impl Drop for Regex {
+    fn drop(&mut self) {
+        unsafe { regfree(self.memory.as_mut_ptr().cast()) }
+    }
+}

@@ -1,0 +1,149 @@
+//! Random patterns and answers, from a seed that is printed.
+
+use crate::model::{Part, Pattern};
+
+/// xorshift64*
+pub struct Random(u64);
+
+impl Random {
+    pub fn new(seed: u64) -> Self {
+        Random(seed.wrapping_mul(0x9e37_79b9_7f4a_7c15) | 1)
+    }
+
+    pub fn next(&mut self) -> u64 {
+        self.0 ^= self.0 >> 12;
+        self.0 ^= self.0 << 25;
+        self.0 ^= self.0 >> 27;
+        self.0.wrapping_mul(0x2545_f491_4f6c_dd1d)
+    }
+
+    pub fn below(&mut self, n: usize) -> usize {
+        (self.next() >> 33) as usize % n
+    }
+
+    pub fn chance(&mut self, percent: usize) -> bool {
+        self.below(100) < percent
+    }
+
+    pub fn pick<'a, T>(&mut self, of: &'a [T]) -> &'a T {
+        &of[self.below(of.len())]
+    }
+}
+
+/// The letters that most random patterns are made of: few, so that sets overlap.
+const LETTERS: &[u8] = b"aabbc";
+const CLASSES: &[&str] = &["[ab]", "[a-c]", "[bc]", "[^a]", "[^ab]", "[c-b]", "[^ -~]", "[a\\-]", "[\\]b]", "[-a]", "[]", "[^]", "[a-]", "[ -~]"];
+const ESCAPES: &[&str] = &["\\*", "\\.", "\\(", "\\\\", "\\=", "\\a", "\\"];
+
+fn lettered(r: &mut Random, out: &mut Vec<u8>, wild: bool) {
+    match r.below(if wild { 12 } else { 9 }) {
+        0..=5 => out.push(*r.pick(LETTERS)),
+        6 => out.push(b'.'),
+        7 | 8 => out.extend(r.pick(&CLASSES[..if wild { CLASSES.len() } else { 5 }]).bytes()),
+        9 => out.extend(r.pick(ESCAPES).bytes()),
+        10 => out.push(*r.pick(b"dxyz~ ")),
+        _ => out.push(*r.pick(b"|*+?()[]{}^$.\\=-")),
+    }
+    if r.chance(25) {
+        out.push(b'=');
+        out.push(if wild && r.chance(10) { b'0' } else { b'1' + r.below(9) as u8 });
+    }
+}
+
+fn piece(r: &mut Random, out: &mut Vec<u8>, depth: usize, wild: bool) {
+    if depth > 0 && r.chance(40) {
+        out.push(b'(');
+        pattern_into(r, out, depth - 1, wild);
+        out.push(b')');
+    } else {
+        lettered(r, out, wild);
+    }
+    if r.chance(45) {
+        out.push(*r.pick(b"**+?"));
+        if wild && r.chance(4) {
+            out.push(*r.pick(b"*+?"));
+        }
+    }
+}
+
+fn pattern_into(r: &mut Random, out: &mut Vec<u8>, depth: usize, wild: bool) {
+    for k in 0..1 + r.below(3) {
+        if k > 0 {
+            out.push(b'|');
+        }
+        for _ in 0..1 + r.below(3) {
+            piece(r, out, depth, wild);
+        }
+    }
+}
+
+/// A pattern that follows the grammar, most of the time; `wild` ones often do not.
+pub fn pattern(r: &mut Random, wild: bool) -> Vec<u8> {
+    let mut out = Vec::new();
+    let depth = r.below(4);
+    pattern_into(r, &mut out, depth, wild);
+    out.truncate(520);
+    if wild && r.chance(30) && !out.is_empty() {
+        let at = r.below(out.len());
+        match r.below(3) {
+            0 => out[at] = r.next() as u8,
+            1 => {
+                out.remove(at);
+            }
+            _ => out.insert(at, *r.pick(b"|*+?()[]{}^$.\\=-a")),
+        }
+    }
+    out
+}
+
+/// A text of the part, or of some prefix of a walk through it.
+fn walk(r: &mut Random, p: &Pattern, part: &Part, out: &mut Vec<u8>) {
+    match part {
+        Part::Letter(i) => {
+            let set: Vec<u8> = p.positions[*i - 1].letters.iter().copied().collect();
+            if !set.is_empty() {
+                out.push(*r.pick(&set[..set.len().min(4)]));
+            }
+        }
+        Part::Either(parts) => {
+            let q = r.pick(parts);
+            walk(r, p, q, out);
+        }
+        Part::Joined(parts) => {
+            for q in parts {
+                walk(r, p, q, out);
+            }
+        }
+        Part::Repeat(k, q) => {
+            let n = match k {
+                b'?' => r.below(2),
+                b'*' => r.below(4),
+                _ => 1 + r.below(3),
+            };
+            for _ in 0..n {
+                walk(r, p, q, out);
+            }
+        }
+    }
+}
+
+/// An answer that belongs to the pattern's texts, mostly; sometimes damaged, sometimes plain noise.
+pub fn answer(r: &mut Random, p: &Pattern) -> Vec<u8> {
+    let mut out = Vec::new();
+    if r.chance(15) {
+        for _ in 0..r.below(6) {
+            out.push(*r.pick(b"abc"));
+        }
+        return out;
+    }
+    walk(r, p, &p.tree, &mut out);
+    out.truncate(10);
+    if r.chance(20) && !out.is_empty() {
+        let at = r.below(out.len());
+        out[at] = *r.pick(b"abc~ ");
+    }
+    if r.chance(2) {
+        out.push(*r.pick(&[10u8, 127, 31, 200, 0]));
+    }
+    out
+}
