@@ -1,4 +1,4 @@
-// The library that is tested: target/staticlib/libmarking.a of the repository, or the folder that MARKING_LIB names.
+// The library: target/staticlib/libmarking.a of the repository, or of the folder that MARKING_LIB names.
 use std::path::Path;
 
 fn main() {
@@ -7,7 +7,7 @@ fn main() {
         Path::new(&here).join("../target/staticlib").to_string_lossy().into_owned()
     });
     println!("cargo:rustc-link-search=native={dir}");
-    if Path::new(&dir).join("libmarking.a").exists() { println!("cargo:rustc-link-lib=static=marking"); }
+    println!("cargo:rustc-link-lib=static=marking");
     println!("cargo:rerun-if-changed={dir}/libmarking.a");
     println!("cargo:rerun-if-env-changed=MARKING_LIB");
 }

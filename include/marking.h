@@ -5,6 +5,7 @@
  * they are given, and write only what is said below. Any bytes may be passed: what is wrong with them is told by a refusal number.
  *
  *   1  the evidence has fewer than 4,096 bytes            (vet)
+ *   2  the scratch has fewer than 8,192 numbers           (marking_vet_in)
  *   3  the pattern has more than 512 bytes                (vet, mark)
  *   4  a byte of the pattern is no letter                 (vet, mark)
  *   5  the pattern does not follow the grammar            (vet, mark)
@@ -14,8 +15,8 @@
  *   9  the answer has more than 4,096 bytes               (mark)
  *  10  a byte of the answer is no letter                  (mark)
  *
- * The lowest that applies, in this order, is returned, and then nothing is written. (Refusal 2, too little scratch, cannot occur
- * here: the library brings the scratch itself.)
+ * The lowest that applies is returned, and then nothing is written. The worst pattern takes 2.0 MB of stack; 3 MiB are enough for
+ * each call.
  */
 #ifndef MARKING_H
 #define MARKING_H
@@ -27,8 +28,9 @@
 extern "C" {
 #endif
 
-/* How many bytes of evidence vet asks for. */
+/* How many bytes of evidence and numbers of scratch vet asks for. */
 #define MARKING_EVIDENCE 4096
+#define MARKING_SCRATCH 8192
 
 /* What vet says of a pattern. */
 enum {
@@ -47,6 +49,13 @@ enum {
  * which stand one after the other from the start of the evidence. Beyond the texts the evidence keeps its old bytes.
  */
 uint64_t marking_vet(const uint8_t *pattern, size_t pattern_len, uint8_t *evidence, size_t evidence_len);
+
+/*
+ * The same in scratch that the caller lends, which may hold anything before the call and does after a verdict. marking_vet brings
+ * its own, 16 KiB of stack.
+ */
+uint64_t marking_vet_in(const uint8_t *pattern, size_t pattern_len, uint8_t *evidence, size_t evidence_len, uint16_t *scratch,
+                        size_t scratch_len);
 
 /*
  * Marks an answer by a pattern. The result is one number:

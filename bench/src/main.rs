@@ -51,6 +51,8 @@ impl Random {
     }
 }
 
+const ORDINARY: &[u8] = b"(th=1e|a=1) (qui=2ck|sl=1ow) (brown|red)? ?fox(es)? (jump(s|ed)?|ran) ove=1r .*";
+
 fn loads() -> Vec<Load> {
     let mut r = Random(1);
     let mut text = |letters: &[u8], n: usize| -> Vec<u8> { (0..n).map(|_| letters[r.below(letters.len())]).collect() };
@@ -69,8 +71,13 @@ fn loads() -> Vec<Load> {
             answers: (0..20).map(|_| text(b"abcdefgh", 4096)).collect(),
         },
         Load {
+            name: "ordinary text, 4,096 letters",
+            pattern: ORDINARY.to_vec(),
+            answers: vec![[&b"the quick brown fox jumped over "[..], &text(b"abcdefgh ", 4064)].concat()],
+        },
+        Load {
             name: "ordinary text, some 60 letters",
-            pattern: b"(th=1e|a=1) (qui=2ck|sl=1ow) (brown|red)? ?fox(es)? (jump(s|ed)?|ran) ove=1r .*".to_vec(),
+            pattern: ORDINARY.to_vec(),
             answers: vec![
                 b"the quick brown fox jumped over the lazy dog near the river".to_vec(),
                 b"a slow fox ran over a hill and was never seen again by us".to_vec(),
@@ -112,16 +119,14 @@ fn patterns() -> Vec<(&'static str, Vec<Vec<u8>>)> {
     for k in 0..30 {
         nested = if k % 2 == 0 { format!("({nested}b)*") } else { format!("(c{nested})*") };
     }
-    let overlapping: String = (0..60).map(|i| format!("[{}-{}]*", (33 + i) as u8 as char, (60 + i) as u8 as char)).collect::<String>();
-    let overlapping: String = overlapping.chars().collect();
-    let distinct: String = (0..60u8).map(|i| if b"|*+?()[]{}^$.\\=".contains(&(33 + i)) { format!("\\{}", (33 + i) as char) } else { ((33 + i) as char).to_string() }).collect();
+    let distinct = different_letters();
     vec![
         ("a* sixty times", one("a*".repeat(60))),
         ("a? sixty times", one("a?".repeat(60))),
         ("thirty nested repeats", one(nested)),
-        ("sixty overlapping classes", if overlapping.len() <= 512 { one(overlapping) } else { one("[a-p]*[b-q]*".repeat(30)) }),
-        ("sixty different positions in one repeat", one(format!("({distinct})*"))),
-        ("sixty alternatives in one repeat", one(format!("({})*", distinct_alternatives()))),
+        ("sixty overlapping classes", one("[a-p]*[b-q]*".repeat(30))),
+        ("sixty different positions in one repeat", one(format!("({})*", distinct.concat()))),
+        ("sixty alternatives in one repeat", one(format!("({})*", distinct.join("|")))),
         (
             "ordinary patterns",
             ["colou?r", "(a|a)b", "(a|b|ab)*c", "[a-z]+( [a-z]+)*", "(th=1e|a=1) (quic=2k|slow) fox(es)?", "[0-9][0-9]?/[0-9][0-9]?/[0-9][0-9][0-9][0-9]", ".*is.*", "(he|she|it) (has|had) (been )?(go|do)ing"]
@@ -132,11 +137,10 @@ fn patterns() -> Vec<(&'static str, Vec<Vec<u8>>)> {
     ]
 }
 
-fn distinct_alternatives() -> String {
-    let l: Vec<String> = (0..60u8)
-        .map(|i| if b"|*+?()[]{}^$.\\=".contains(&(33 + i)) { format!("\\{}", (33 + i) as char) } else { ((33 + i) as char).to_string() })
-        .collect();
-    l.join("|")
+/// Sixty different letters as a pattern writes them.
+fn different_letters() -> Vec<String> {
+    let write = |b: u8| if b"|*+?()[]{}^$.\\=".contains(&b) { format!("\\{}", b as char) } else { (b as char).to_string() };
+    (33..93).map(write).collect()
 }
 
 fn vetting() {

@@ -64,7 +64,6 @@ module _ {b : Built} (fit : Vettable b) where
     next = λ u i h. let n = and-parts (hasBit (getD (b .follow) u 0) i) (leb 1 i && ltb i 61) h .0 in (fit .bounded .next-to u i n, n);
     goes-on = λ u i h n.
         let p = position-of g i h in
-        let few = fit .bounded .few in
         and-of (hasBit (getD (b .follow) u 0) i) (leb 1 i && ltb i 61) n (and-of (leb 1 i) (ltb i 61) (le-leb 1 i (p .0)) (lt-ltb i 61 (omega arith)));
   }
 
@@ -76,7 +75,6 @@ module _ {b : Built} (fit : Vettable b) where
 
   pub shares-of : (S : List ℕ) → ((a c : ℕ) → a ≤ 60 → c ≤ 60 → hasBit (getD S a 0) c ≡ someLetter (held (b .letters) a c)) → Shares g S
   shares-of S h =
-      let few = fit .bounded .few in
       record { share = λ a c k l. let p = position-of g a k in let q = position-of g c l in h a c (omega arith) (omega arith); own = own }
 
   -- ---- each node that a step leads to has a letter
@@ -94,7 +92,6 @@ module _ {b : Built} (fit : Vettable b) where
   pub showable : {S : List ℕ} → Honest S → (x y : ℕ) → Step (b .follow) S x y → Showable (b .letters) y
   showable h x y (single {a} l k) =
       let i = rows-of .next x a k .0 in
-      let few = fit .bounded .few in
       let p = position-of g a i in
       let low : a < 64 = omega arith in
       let left = left-low a low in
@@ -103,7 +100,6 @@ module _ {b : Built} (fit : Vettable b) where
   showable h x y (beside {a} {b = c} p) =
       let i = rows-of .next (leftOf x) a (p .left) .0 in
       let j = rows-of .next (rightOf x) c (p .right) .0 in
-      let few = fit .bounded .few in
       let u = position-of g a i in
       let v = position-of g c j in
       let s = h a c i j (p .share) in
@@ -136,7 +132,6 @@ module _ {b : Built} (fit : Vettable b) where
   route-text : (u : ℕ) (r : List ℕ) → Route g u r → map (letterOf g) r ≡ shown g r r
   route-text u [] h = refl
   route-text u (i ∷ r) h =
-      let few = fit .bounded .few in
       let p = position-of g i (h .0) in
       let low : i < 64 = omega arith in
       ap₂ _∷_ (ap₂ (letterShown g) (left-low i low) (right-low i low)) (route-text i r (h .2))
@@ -153,7 +148,7 @@ module _ {b : Built} (fit : Vettable b) where
   stateIn m = record { mask = m; parted = false }
 
   goal-at : (m u : ℕ) (r : List ℕ) → u ≤ g .places → Route g u r → isGoal (stateIn m) (endOf u r) ≡ hasBit m (endOf u r)
-  goal-at m u r l h = let few = fit .bounded .few in goal-low (stateIn m) (endOf u r) (omega (arith, route-end u r l h))
+  goal-at m u r l h = goal-low (stateIn m) (endOf u r) (omega (arith, route-end u r l h))
 
   -- with no letters shared, a chain of nodes is a route
   record Routed (nodes : List ℕ) (u m : ℕ) : Type 0 where
@@ -180,7 +175,7 @@ module _ {b : Built} (fit : Vettable b) where
       → Shown (b .letters) (b .follow) (replicate 61 0) e e′ (stateIn m) u base r → ToldRoute e e′ m u base r
   route-told {m} {u = u} {r = r} c l h k s =
       ⊎-elim
-      (λ n. let few = fit .bounded .few in absurd (true≢false (sym (goal-at m u c l h ∙ k) ∙ s .none n .1 c (route-chain rows-of (replicate 61 0) u c (omega arith) h))))
+      (λ n. absurd (true≢false (sym (goal-at m u c l h ∙ k) ∙ s .none n .1 c (route-chain rows-of (replicate 61 0) u c (omega arith) h))))
       (s .some) (le-or-lt 4096 r)
 
   -- ---- no pivot

@@ -54,7 +54,6 @@ module _ {g : Graph} {F S : List ℕ} (rows : Rows g F) (sh : Shares g S) where
   places a b h k =
       let p = position-of g a h in
       let q = position-of g b k in
-      let few = rows .few in
       record { left-low = p .0; left-high = omega arith; right-low = q .0; right-high = omega arith }
 
   record Lifted (n : Node) (y : ℕ) : Type 0 where
@@ -89,7 +88,6 @@ module _ {g : Graph} {F S : List ℕ} (rows : Rows g F) (sh : Shares g S) where
       }
   step-move false t y h (beside {a} {b} p) =
       let u = t .left in
-      let few = rows .few in
       let low : u < 64 = omega (arith, h .1) in
       record {
         to = node (pair a b) true;
@@ -133,9 +131,8 @@ module _ {g : Graph} {F S : List ℕ} (rows : Rows g F) (sh : Shares g S) where
   turn t r s = record { placed = (s .placed .1, s .placed .0); left-next = s .right-next; right-next = s .left-next; share = shares-swap g (r .right) (r .left) ∙ s .share }
 
   move-step : (f e : Bool) (t r : Pair) → Held g f t → Held g e r → Moves g (node t f) (node r e) → Step F S (codeOf f t) (codeOf e r)
-  move-step false false t r h k s = let few = rows .few in single (omega (arith, h .1)) (rows .goes-on (t .left) (r .left) (s .step .placed .0) (s .step .left-next))
+  move-step false false t r h k s = single (omega (arith, h .1)) (rows .goes-on (t .left) (r .left) (s .step .placed .0) (s .step .left-next))
   move-step false true t r h k s =
-      let few = rows .few in
       let low : t .left < 64 = omega (arith, h .1) in
       parts (t .left) t r (left-low (t .left) low) (right-low (t .left) low ∙ h .0) (s .step) (ap (λ (x : Bool). x || not (eqb (r .left) (r .right))) (lt-leb 64 (t .left) low) ∙ sym (s .flag))
   move-step true false t r h k s = absurd (true≢false (sym (s .flag)))

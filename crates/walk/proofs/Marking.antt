@@ -58,7 +58,6 @@ module _ (seen : List ℕ) (a b m n : ℕ) (even : Even seen) (l : a ≤ 60) (k 
   rows : (c d : ℕ) → hasBit (getD (set (set seen a m) b n) c 0) d ≡ (hasBit (getD seen c 0) d || hit a b c d)
   rows c d =
       let x = hasBit (getD seen c 0) d in
-      let size = even .size in
       by-equal c b
       (λ z.
       let here : getD (set (set seen a m) b n) c 0 ≡ n = ap (λ (i : ℕ). getD (set (set seen a m) b n) i 0) z ∙ getD-set-same (set seen a m) b n 0 (omega (arith, length-set seen a m)) in

@@ -13,7 +13,7 @@ use Rattle.basics.specs.Choice.{if_then_else_}
 use Rattle.basics.proofs.Tests.{and-parts, and-of, le-or-lt, if-yes, if-no, by-test}
 use Rattle.bits.specs.Bits.{hasBit}
 use Rattle.bits.proofs.Laws.{has-none}
-use Rattle.walk.specs.Nodes.{IsNode, one, two, pack, leftOf, rightOf, goes, RowOf, Parts, Step, single, beside, taken, Even, Free, FindsPair, Fresh, new-single, new-beside, Finds}
+use Rattle.walk.specs.Nodes.{IsNode, one, two, pack, leftOf, rightOf, goes, RowOf, Parts, Step, single, beside, taken, Even, PartnersOf, Free, FindsPair, Fresh, new-single, new-beside, Finds}
 
 -- ---- the two sides of a node
 
@@ -80,8 +80,6 @@ sides = by-order (λ a b. Places a b → Sides a b) swap ordered
     ordered : (a b : ℕ) → b ≤ a → Places a b → Sides a b
     ordered a b l h =
         let e = pack-more a b l in
-        let low = h .left-low in
-        let most = h .left-high in
         let big : 64 ≤ a * 64 + b = omega arith in
         let left : (a * 64 + b) / 64 ≡ a = omega arith in
         let right : (a * 64 + b) % 64 ≡ b = omega arith in
@@ -138,8 +136,6 @@ module _ (alone : ℕ) (seen : List ℕ) (even : Even seen) where
   taken-pair = by-order (λ a b. Places a b → taken alone seen (pack a b) ≡ hasBit (getD seen a 0) b)
       (λ a b f h. ap (taken alone seen) (pack-swap b a) ∙ f (turned b a h) ∙ even .same a b (h .right-high) (h .left-high))
       (λ a b l h.
-      let low = h .left-low in
-      let most = h .right-high in
       let big : 64 ≤ a * 64 + b = omega arith in
       let left : (a * 64 + b) / 64 ≡ a = omega arith in
       let right : (a * 64 + b) % 64 ≡ b = omega arith in
@@ -151,10 +147,13 @@ module _ (alone : ℕ) (seen : List ℕ) (even : Even seen) where
     fresh y (new-single {a} l h n) = let p = goes-parts F x a h .2 in (single l h, taken-low alone seen a (omega arith) ∙ n)
     fresh y (new-beside {a} {b} p n) = (beside p, taken-pair a b (parts-places F S x a b p) ∙ n)
 
+    step-fresh : (y : ℕ) → Step F S x y → taken alone seen y ≡ false → Fresh F S alone seen x y
+    step-fresh y (single {a} k h) t = let p = goes-parts F x a h .2 in new-single k h (sym (taken-low alone seen a (omega arith)) ∙ t)
+    step-fresh y (beside {a} {b} p) t = new-beside p (sym (taken-pair a b (parts-places F S x a b p)) ∙ t)
+
     -- where nothing is found, each node one step on is taken up
     pub spent : (r y : ℕ) → Finds F S alone seen x r → 4096 ≤ r → IsNode x → Step F S x y → taken alone seen y ≡ true
-    spent r y f l n (single {a} k h) = let p = goes-parts F x a h .2 in taken-low alone seen a (omega arith) ∙ f .none-one l n a k h
-    spent r y f l n (beside {a} {b} p) = taken-pair a b (parts-places F S x a b p) ∙ f .none-two l n a b p
+    spent r y f l n s = by-test (taken alone seen y) (λ t. t) (λ t. absurd (f .none l n y (step-fresh y s t)))
 
 pub fresh-node : (F S : List ℕ) (alone : ℕ) (seen : List ℕ) (x y : ℕ) → Fresh F S alone seen x y → IsNode y
 fresh-node F S alone seen x y (new-single {a} l h n) = one {a = a} (goes-parts F x a h .2)
@@ -162,26 +161,30 @@ fresh-node F S alone seen x y (new-beside {a} {b} p n) = pack-node a b (parts-pl
 
 -- ---- a free pair, by the word of partners
 
-module _ (S seen : List ℕ) (from to : ℕ) (parted : Bool) (a b : ℕ) where
-  abbrev isFree : Bool
-  isFree = ((hasBit to b && hasBit (getD S a 0) b) && not (hasBit (getD seen a 0) b)) && (parted || not (eqb a b))
+module _ {to shared seen a : ℕ} {parted : Bool} {m : ℕ} (p : PartnersOf to shared seen a parted m) (b : ℕ) where
+  partner-parts : hasBit m b ≡ true → (hasBit to b ≡ true) × (hasBit shared b ≡ true) × (hasBit seen b ≡ false) × ((parted || not (eqb a b)) ≡ true)
+  partner-parts h =
+      let x = and-parts ((hasBit to b && hasBit shared b) && not (hasBit seen b)) (parted || not (eqb a b)) (sym (p .bits b) ∙ h) in
+      let y = and-parts (hasBit to b && hasBit shared b) (not (hasBit seen b)) (x .0) in
+      let z = and-parts (hasBit to b) (hasBit shared b) (y .0) in
+      (z .0, z .1, not-true (hasBit seen b) (y .1), x .1)
 
-  pub to-free : (r : ℕ) → hasBit r b ≡ isFree → hasBit from a ≡ true → hasBit r b ≡ true → Free S seen from to parted a b
-  to-free r e l k =
-      let h = sym e ∙ k in
-      let p = and-parts ((hasBit to b && hasBit (getD S a 0) b) && not (hasBit (getD seen a 0) b)) (parted || not (eqb a b)) h in
-      let q = and-parts (hasBit to b && hasBit (getD S a 0) b) (not (hasBit (getD seen a 0) b)) (p .0) in
-      let r = and-parts (hasBit to b) (hasBit (getD S a 0) b) (q .0) in
-      record { left = l; right = r .0; share = r .1; new = not-true (hasBit (getD seen a 0) b) (q .1); apart = p .1 }
+  pub partner-in : hasBit m b ≡ true → hasBit to b ≡ true
+  partner-in h = partner-parts h .0
 
-  pub of-free : Free S seen from to parted a b → isFree ≡ true
-  of-free f =
-      and-of ((hasBit to b && hasBit (getD S a 0) b) && not (hasBit (getD seen a 0) b)) (parted || not (eqb a b))
-      (and-of (hasBit to b && hasBit (getD S a 0) b) (not (hasBit (getD seen a 0) b)) (and-of (hasBit to b) (hasBit (getD S a 0) b) (f .right) (f .share)) (ap not (f .new))) (f .apart)
+  partner-of : hasBit to b ≡ true → hasBit shared b ≡ true → hasBit seen b ≡ false → (parted || not (eqb a b)) ≡ true → hasBit m b ≡ true
+  partner-of x y z w =
+      p .bits b
+      ∙ and-of ((hasBit to b && hasBit shared b) && not (hasBit seen b)) (parted || not (eqb a b))
+      (and-of (hasBit to b && hasBit shared b) (not (hasBit seen b)) (and-of (hasBit to b) (hasBit shared b) x y) (ap not z)) w
+
+module _ {S seen : List ℕ} {from to : ℕ} {parted : Bool} {a m : ℕ} (p : PartnersOf to (getD S a 0) (getD seen a 0) a parted m) {b : ℕ} where
+  pub partner-free : hasBit from a ≡ true → hasBit m b ≡ true → Free S seen from to parted a b
+  partner-free l h = let x = partner-parts p b h in record { left = l; right = x .0; share = x .1; new = x .2; apart = x .3 }
 
   -- with an empty word there is none
-  pub free-none : (r : ℕ) → hasBit r b ≡ isFree → r ≡ 0 → Free S seen from to parted a b → ⊥
-  free-none r e z f = true≢false (sym (of-free f) ∙ sym e ∙ ap (λ (m : ℕ). hasBit m b) z ∙ has-none b)
+  pub free-none : m ≡ 0 → Free S seen from to parted a b → ⊥
+  free-none z f = true≢false (sym (partner-of p b (f .right) (f .share) (f .new) (f .apart)) ∙ ap (λ (x : ℕ). hasBit x b) z ∙ has-none b)
 
 -- ---- what is found from a node
 
@@ -191,23 +194,19 @@ node-cases x (two {a} {b} l m h) = inr (omega arith)
 
 -- from what is no node, nothing
 pub find-nothing : {F S : List ℕ} {alone : ℕ} {seen : List ℕ} {x : ℕ} → (IsNode x → ⊥) → Finds F S alone seen x 4096
-find-nothing f = record { some = λ l. absurd (omega arith); none-one = λ l n. absurd (f n); none-two = λ l n. absurd (f n) }
+find-nothing f = record { some = λ l. absurd (omega arith); none = λ l n. absurd (f n) }
 
 -- a state that is not taken up
 pub find-single : {F S : List ℕ} {alone : ℕ} {seen : List ℕ} {x next : ℕ} (new : ℕ) {r : ℕ} → x ≤ 60 → RowOf F x next → ((i : ℕ) → hasBit new i ≡ (hasBit next i && not (hasBit alone i)))
     → hasBit new r ≡ true → r < 64 → Finds F S alone seen x r
 find-single {alone = alone} {next = next} new {r} h row f k m =
     let p = and-parts (hasBit next r) (not (hasBit alone r)) (sym (f r) ∙ k) in
-    record {
-      some = λ l. new-single {a = r} (omega arith) (sym (row .bits r) ∙ p .0) (not-true (hasBit alone r) (p .1));
-      none-one = λ l. absurd (omega arith);
-      none-two = λ l. absurd (omega arith);
-    }
+    record { some = λ l. new-single {a = r} (omega arith) (sym (row .bits r) ∙ p .0) (not-true (hasBit alone r) (p .1)); none = λ l. absurd (omega arith) }
 
 -- a pair that is not taken up, where states are
 find-pair : {F S : List ℕ} {alone : ℕ} {seen : List ℕ} {x from to : ℕ} {parted : Bool} {r : ℕ} → RowOf F (leftOf x) from → RowOf F (rightOf x) to → parted ≡ leb 64 x
     → ((a : ℕ) → x < 64 → goes F x a ≡ true → hasBit alone a ≡ true) → FindsPair S seen from to parted r → Finds F S alone seen x r
-find-pair {F} {S} {alone} {seen} {x} left right q gone d = record {
+find-pair {F} {S} {alone} {seen} {x} {r = r} left right q gone d = record {
   some = λ l.
       let p = d .some l in
       let a = p .0 in
@@ -215,11 +214,12 @@ find-pair {F} {S} {alone} {seen} {x} left right q gone d = record {
       let w = p .2 in
       subst (Fresh F S alone seen x) (sym (p .3))
       (new-beside (record { left = sym (left .bits a) ∙ w .left; right = sym (right .bits b) ∙ w .right; share = w .share; apart = sym (ap (λ (t : Bool). t || not (eqb a b)) q) ∙ w .apart }) (w .new));
-  none-one = λ l n. gone;
-  none-two = λ l n a b p.
-      by-test (hasBit (getD seen a 0) b) (λ t. t)
-      (λ t. absurd (d .none l a b (record { left = left .bits a ∙ p .left; right = right .bits b ∙ p .right; share = p .share; new = t; apart = ap (λ (t : Bool). t || not (eqb a b)) q ∙ p .apart })));
+  none = λ l n y. none l y;
 }
+  where
+    none : 4096 ≤ r → (y : ℕ) → Fresh F S alone seen x y → ⊥
+    none l y (new-single {a} k h e) = true≢false (sym (gone a k h) ∙ e)
+    none l y (new-beside {a} {b} p e) = d .none l a b (record { left = left .bits a ∙ p .left; right = right .bits b ∙ p .right; share = p .share; new = e; apart = ap (λ (t : Bool). t || not (eqb a b)) q ∙ p .apart })
 
 -- from a state whose next states are taken up
 pub find-parting : {F S : List ℕ} {alone : ℕ} {seen : List ℕ} {x next : ℕ} (new : ℕ) {r : ℕ} → x ≤ 60 → RowOf F x next → ((i : ℕ) → hasBit new i ≡ (hasBit next i && not (hasBit alone i))) → new ≡ 0

@@ -6,6 +6,7 @@ use Prim.Native.Nat.{ℕ, _+_, _≤_, _<_}
 use native.Mathlib.Omega.{arith}
 use borrow.Author.Tests.{eqb-true, eq-eqb}
 use lib.Dec.{eqb}
+use lib.ListN.{length}
 use Rattle.basics.proofs.Tests.{same-test, by-equal}
 use Rattle.bits.specs.Bits.{hasBit}
 use Rattle.graph.specs.Graph.{Graph, isPosition}
@@ -15,7 +16,7 @@ use Rattle.verdict.proofs.Pivots.{pivot-none, pivot-is-first}
 use Rattle.walk.specs.declared.Goal.{Goal}
 use Rattle.walk.specs.declared.Walk.{Walk}
 use Rattle.walk.specs.Tables.{Rows, Shares}
-use Rattle.walk.specs.Walks.{isGoal, Searched}
+use Rattle.walk.specs.Walks.{isGoal, Hunted, Searched}
 use Rattle.walk.proofs.Searching.{goal-low, found-parts}
 
 -- both paths at q
@@ -45,5 +46,24 @@ module _ {F S s : List ℕ} {places q m : ℕ} {w : Walk} (low : 1 ≤ q) (high 
   pub pivot-first : w .found ≡ true → (g : Graph) → Rows g F → Shares g S → g .places ≡ places → firstPivot g ≡ q
   pivot-first f g rows sh e = pivot-is-first g q (is-position g q low (omega arith)) (pivot-found rows sh only (omega arith) over ∙ f) (λ k i l. none g rows sh e k i l)
 
-pub none-first : (F S : List ℕ) (places q : ℕ) → places < q → NoneBelow F S places q → (g : Graph) → Rows g F → Shares g S → g .places ≡ places → firstPivot g ≡ 0
-none-first F S places q l none g rows sh e = pivot-none g (λ k i. none g rows sh e k i (let p = position-of g k i in omega arith))
+pub none-yet : {F S : List ℕ} {places : ℕ} → NoneBelow F S places 1
+none-yet g rows sh e k i l = absurd (let p = position-of g k i in omega arith)
+
+pub none-first : {F S : List ℕ} {places q : ℕ} → places < q → NoneBelow F S places q → (g : Graph) → Rows g F → Shares g S → g .places ≡ places → firstPivot g ≡ 0
+none-first l none g rows sh e = pivot-none g (λ k i. none g rows sh e k i (let p = position-of g k i in omega arith))
+
+-- ---- the two loops
+
+-- a search from q under way, with no goal yet
+pub record Looking (F S s₀ s : List ℕ) (goal : Goal) (q at₀ at : ℕ) (w : Walk) : Type 0 where
+  pub size : length s ≡ length s₀
+  pub still : at ≡ at₀
+  pub hunted : Hunted F S s goal q w
+  pub none : w .found ≡ false
+
+-- the positions below q are passed, and none is a pivot
+pub record Passing (F S s₀ s : List ℕ) (places q at : ℕ) : Type 0 where
+  pub size : length s ≡ length s₀
+  pub low : 1 ≤ q
+  pub still : at ≡ 0
+  pub none : NoneBelow F S places q

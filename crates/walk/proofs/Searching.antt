@@ -59,7 +59,6 @@ module _ {F S s : List ℕ} {goal : Goal} {u : ℕ} {w : Walk} (over : Searched 
   pub found-way : w .found ≡ true → Way (Step F S) u (queue s (w .tail - 1))
   found-way e =
       let r = over .hunted .real .walked in
-      let begun = r .begun in
       let i = w .tail - 1 in
       subst (λ (x : ℕ). Way (Step F S) x (queue s i)) (over .hunted .first)
       (way-back r i i (le-refl i) (omega arith) (queue s i) (record { nodes = []; goes = tt; ends = refl }))
@@ -77,7 +76,7 @@ module _ {F S s : List ℕ} {goal : Goal} {u : ℕ} {w : Walk} (over : Searched 
 
 module _ {g : Graph} {F S : List ℕ} (rows : Rows g F) (sh : Shares g S) where
   goal-code : (goal : Goal) → goal .parted ≡ true → (f : Bool) (t : Pair) → Held g f t → isGoal goal (codeOf f t) ≡ (f && bothIn (goal .mask) (t .left) (t .right))
-  goal-code goal p false t h = let few = rows .few in goal-low goal (t .left) (omega (arith, h .1)) ∙ ap (λ (x : Bool). not x && hasBit (goal .mask) (t .left)) p
+  goal-code goal p false t h = goal-low goal (t .left) (omega (arith, h .1)) ∙ ap (λ (x : Bool). not x && hasBit (goal .mask) (t .left)) p
   goal-code goal p true t h =
       let x = pack (t .left) (t .right) in
       let m = goal .mask in
@@ -133,7 +132,6 @@ module _ {g : Graph} {F S : List ℕ} (rows : Rows g F) (sh : Shares g S) where
 
   letter-code : (f : Bool) (t : Pair) → Held g f t → letterOf g (codeOf f t) ≡ letterShown g (t .left) (t .right)
   letter-code false t h =
-      let few = rows .few in
       let low : t .left < 64 = omega (arith, h .1) in
       ap₂ (letterShown g) (left-low (t .left) low) (right-low (t .left) low ∙ h .0)
   letter-code true t h =
@@ -178,6 +176,5 @@ module _ {g : Graph} {F : List ℕ} (rows : Rows g F) where
   pub route-chain : (S : List ℕ) (u : ℕ) (ys : List ℕ) → u < 64 → Route g u ys → Chain (Step F S) u ys
   route-chain S u [] l h = tt
   route-chain S u (y ∷ ys) l h =
-      let few = rows .few in
       let p = position-of g y (h .0) in
       (single l (rows .goes-on u y (h .0) (h .1)), route-chain S y ys (omega arith) (h .2))

@@ -41,14 +41,12 @@ pub record Counted (s : List ℕ) (i j n : ℕ) : Type 0 where
 pub count-start : (s : List ℕ) (i : ℕ) → Counted s i i 0
 count-start s i = record { low = omega arith; whole = λ m b. let e : m ≡ 0 + m = omega arith in subst (Behind s i) e b }
 
-pub count-next : (s : List ℕ) (i j n : ℕ) → 0 < j → backOf s j < j → Counted s i j n → Counted s i (backOf s j) (n + 1)
-count-next s i j n l k c =
-    let low = c .low in
+pub count-next : {s : List ℕ} {i j n : ℕ} → 0 < j → backOf s j < j → Counted s i j n → Counted s i (backOf s j) (n + 1)
+count-next {s} {i} {j} {n} l k c =
     record { low = omega arith; whole = λ m b. let e : n + suc m ≡ n + 1 + m = omega arith in subst (Behind s i) e (c .whole (suc m) (later {i = j} {n = m} l b)) }
 
-pub count-end : (s : List ℕ) (i j n : ℕ) → j ≡ 0 → Counted s i j n → Behind s i n × (n ≤ i)
-count-end s i j n e c =
-    let low = c .low in
+pub count-end : {s : List ℕ} {i j n : ℕ} → j ≡ 0 → Counted s i j n → Behind s i n × (n ≤ i)
+count-end {s} {i} {j} {n} e c =
     let z : n + 0 ≡ n = omega arith in
     (subst (Behind s i) z (c .whole 0 (subst (λ (k : ℕ). Behind s k 0) (sym e) first)), omega arith)
 
@@ -90,20 +88,12 @@ module _ {sets : List LetterSet} {s e o : List ℕ} {i base n j k : ℕ} (w : Wr
       let f = behind-further s j (w .steps) l (w .left) in
       let is = f .is in
       let place = w .place in
-      let size = w .size in
-      let room = w .room in
-      let same = w .same in
       (omega arith, omega arith)
 
   pub write-next : 0 < j → backOf s j < j → {v : ℕ} → v ≡ letterAt sets (queue s j) → Writing sets s e (set o (k - 1) v) i base n (backOf s j) (k - 1)
   write-next l b {v} q =
       let f = behind-further s j (w .steps) l (w .left) in
-      let is = f .is in
-      let place = w .place in
-      let size = w .size in
-      let low = w .low in
       let room = write-room l in
-      let same = w .same in
       let tail = map (letterAt sets) (w .nodes) ++ drop (base + n) e in
       let more : k ≡ suc (k - 1) = omega arith in
       record {
@@ -124,8 +114,6 @@ module _ {sets : List LetterSet} {s e o : List ℕ} {i base n j k : ℕ} (w : Wr
   pub write-end : j ≡ 0 → Traced sets s e o i base n
   write-end z =
       let none = behind-none s j (w .steps) z (w .left) in
-      let place = w .place in
-      let size = w .size in
       let here : k ≡ base = omega arith in
       record {
         nodes = w .nodes;
@@ -154,7 +142,6 @@ pub along : {E : ℕ → ℕ → Type 0} {T : ℕ → Bool} {s : List ℕ} {h t 
 along w i j nodes l there = record { low = le-refl i; goes = tt; ends = refl; among = tt; apart = tt }
 along {s = s} w i j nodes l (before {j = k} {nodes = c} p o) =
     let r = along w i k c l o in
-    let low = r .low in
     let b = w .back k p (omega arith) in
     let less = b .0 in
     record {

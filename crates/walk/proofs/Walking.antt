@@ -56,8 +56,6 @@ module _ {E : ℕ → ℕ → Type 0} {T : ℕ → Bool} {s : List ℕ} {h t : �
 
   pub few-nodes : t ≤ 1891
   few-nodes =
-      let few = w .few in
-      let long = w .long in
       let size : length (take t s) ≡ t = length-take-le t s (omega arith) in
       let n = pigeon number IsNode 1891 node-low node-told (take t s)
       (apart-at 0 (take t s) (λ i j l m e. w .differ i j l (omega arith) (sym (getD-take t s i 0 (omega arith)) ∙ e ∙ getD-take t s j 0 (omega arith))))
@@ -105,7 +103,6 @@ module _ {E : ℕ → ℕ → Type 0} {T : ℕ → Bool} {s : List ℕ} {h t : �
           (λ i k z.
           let b = w .back i z k in
           let e = up-back-before s y h t (w .long) room i k in
-          let low = b .0 in
           (omega arith, subst (λ (j : ℕ). E (queue s′ j) (queue s′ i)) (sym e) (subst (λ (x : ℕ). E x (queue s′ i)) (sym (old (backOf s i) (omega arith))) (subst (E (queue s (backOf s i))) (sym (old i k)) (b .1)))))
           (λ z.
           let e = up-back s y h t (w .long) room in
@@ -145,7 +142,6 @@ way-back w zero (suc i) k l z v = absurd (omega arith)
 way-back w (suc n) zero k l z v = v
 way-back {s = s} w (suc n) (suc i) k l z v =
     let b = w .back (suc i) (omega arith) l in
-    let low = b .0 in
     way-back w n (backOf s (suc i)) (omega arith) (omega arith) z (record { nodes = queue s (suc i) ∷ v .nodes; goes = (b .1, v .goes); ends = v .ends })
 
 -- ---- a walk is begun
@@ -240,5 +236,4 @@ module _ {F S s s′ : List ℕ} {goal : Goal} {start : ℕ} {w r : Walk} (a : H
   -- the measure of a loop of visits
   pub visit-less : w .head < w .tail → 4000 * (2048 - r .tail) + (r .tail - r .head) < 4000 * (2048 - w .tail) + (w .tail - w .head)
   visit-less l =
-      let few = v .real .walked .few in
       ⊎-elim (λ o. let e = o .0 in omega arith) (λ o. let e = o .0 in let f = o .1 in omega arith) (v .outcome)

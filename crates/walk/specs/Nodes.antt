@@ -61,6 +61,10 @@ pub record Free (S seen : List ℕ) (from to : ℕ) (parted : Bool) (a b : ℕ) 
   pub new : hasBit (getD seen a 0) b ≡ false
   pub apart : (parted || not (eqb a b)) ≡ true
 
+-- m is the set of the partners b of a, by its row of shared letters and its row of those taken up
+pub record PartnersOf (to shared seen a : ℕ) (parted : Bool) (m : ℕ) : Type 0 where
+  pub bits : (b : ℕ) → hasBit m b ≡ (((hasBit to b && hasBit shared b) && not (hasBit seen b)) && (parted || not (eqb a b)))
+
 -- r is the node of such a pair, or 4096 where there is none
 pub record FindsPair (S seen : List ℕ) (from to : ℕ) (parted : Bool) (r : ℕ) : Type 0 where
   pub some : r < 4096 → (a : ℕ) × (b : ℕ) × Free S seen from to parted a b × (r ≡ pack a b)
@@ -74,5 +78,4 @@ pub data Fresh (F S : List ℕ) (alone : ℕ) (seen : List ℕ) (x : ℕ) : ℕ 
 -- r is such a node, or 4096 where there is none
 pub record Finds (F S : List ℕ) (alone : ℕ) (seen : List ℕ) (x r : ℕ) : Type 0 where
   pub some : r < 4096 → Fresh F S alone seen x r
-  pub none-one : 4096 ≤ r → IsNode x → (a : ℕ) → x < 64 → goes F x a ≡ true → hasBit alone a ≡ true
-  pub none-two : 4096 ≤ r → IsNode x → (a b : ℕ) → Parts F S x a b → hasBit (getD seen a 0) b ≡ true
+  pub none : 4096 ≤ r → IsNode x → (y : ℕ) → Fresh F S alone seen x y → ⊥

@@ -16,7 +16,7 @@ ghost use Rattle.letters.specs.LetterSet.{hasLetter};
 ghost use Rattle.graph.specs.Graph.{Graph};
 ghost use Rattle.graph.specs.Built.{shows};
 ghost use Rattle.verdict.specs.Verdict.{firstPivot};
-ghost use Rattle.walk.specs.Nodes.{IsNode, pack, leftOf, rightOf, RowOf, Step, FindsPair, Finds};
+ghost use Rattle.walk.specs.Nodes.{IsNode, pack, leftOf, rightOf, RowOf, Step, PartnersOf, FindsPair, Finds};
 ghost use Rattle.walk.specs.Walks.{takeUp, Marked, isGoal, Tried, Hunted, Searched};
 ghost use Rattle.walk.specs.Tables.{Rows, Shares};
 ghost use Rattle.walk.specs.Texts.{held, Lettered, letterAt, Showable, Linked, Behind, Traced, Shown};
@@ -80,7 +80,7 @@ fn others(set: u64, i: usize, all: bool) -> u64
 // Of the set `to`, the positions that share a letter with a and are not seen beside it.
 fn partners(to: u64, shared: u64, seen: u64, a: usize, parted: bool) -> u64
     requires { ⌜ a < 64 ⌝ }
-    ensures { λ r. ⌜ ((b : ℕ) → hasBit r b ≡ (((hasBit to b && hasBit shared b) && not (hasBit seen b)) && (parted || not (eqb a b)))) ⌝ }
+    ensures { λ r. ⌜ PartnersOf to shared seen a parted r ⌝ }
 {
     others(bits::minus(bits::both(to, shared), seen), a, parted)
 }

@@ -1,8 +1,9 @@
-//! The library's two calls, as a client in C makes them, with every byte of lent memory watched: the evidence slice stands
-//! between two guards, and the count behind a pointer is compared before and after.
+//! The library's calls, as a client in C makes them, with every byte of lent memory watched: the evidence and the scratch stand
+//! between guards, and the count behind a pointer is compared before and after.
 
 extern "C" {
     fn marking_vet(pattern: *const u8, pattern_len: usize, evidence: *mut u8, evidence_len: usize) -> u64;
+    fn marking_vet_in(pattern: *const u8, pattern_len: usize, evidence: *mut u8, evidence_len: usize, scratch: *mut u16, scratch_len: usize) -> u64;
     fn marking_mark(pattern: *const u8, pattern_len: usize, answer: *const u8, answer_len: usize, count: *mut u64) -> u64;
 }
 
@@ -27,9 +28,29 @@ fn old_byte(seed: u8, i: usize) -> u8 {
 
 /// The call, and whatever it did to memory that it should not have done.
 pub fn vet(pattern: &[u8], evidence_len: usize, seed: u8) -> Result<Vetted, String> {
+    watched(evidence_len, seed, |evidence| unsafe { marking_vet(pattern.as_ptr(), pattern.len(), evidence, evidence_len) })
+}
+
+/// The same in lent scratch of so many numbers that holds garbage.
+pub fn vet_in(pattern: &[u8], evidence_len: usize, scratch_len: usize, seed: u8) -> Result<Vetted, String> {
+    let mut scratch: Vec<u16> = (0..scratch_len + 2 * GUARD).map(|i| (i as u16).wrapping_mul(40503).wrapping_add(u16::from(seed))).collect();
+    let before = scratch.clone();
+    let lent = unsafe { scratch.as_mut_ptr().add(GUARD) };
+    let got = watched(evidence_len, seed, |evidence| unsafe { marking_vet_in(pattern.as_ptr(), pattern.len(), evidence, evidence_len, lent, scratch_len) });
+    let end = GUARD + scratch_len;
+    if scratch[..GUARD] != before[..GUARD] || scratch[end..] != before[end..] {
+        return Err("memory beside the scratch changed".into());
+    }
+    if matches!(got, Ok(Vetted::Refused(_))) && scratch != before {
+        return Err("scratch changed by a refusal".into());
+    }
+    got
+}
+
+fn watched(evidence_len: usize, seed: u8, call: impl FnOnce(*mut u8) -> u64) -> Result<Vetted, String> {
     let mut memory: Vec<u8> = (0..evidence_len + 2 * GUARD).map(|i| old_byte(seed, i)).collect();
     let before = memory.clone();
-    let r = unsafe { marking_vet(pattern.as_ptr(), pattern.len(), memory.as_mut_ptr().add(GUARD), evidence_len) };
+    let r = call(unsafe { memory.as_mut_ptr().add(GUARD) });
     let field = |at: u32, bits: u32| (r >> at) & ((1 << bits) - 1);
     let refusal = field(0, 8) as u8;
     let lengths = [field(24, 12) as usize, field(36, 12) as usize, field(48, 12) as usize];

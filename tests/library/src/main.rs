@@ -1,12 +1,12 @@
-//! Tests of the library against the paper: specimens, edges of every refusal, and random patterns and answers against an
-//! independent model. The last line is 'N passed, M failed'. Arguments: how many random patterns, and a seed.
+//! Tests of the library against the rules: specimens, edges of every refusal, lent scratch, threads, and random patterns and
+//! answers against an independent model. The last line is 'N passed, M failed'. Arguments: how many random patterns, and a seed.
 
 mod library;
 mod model;
 mod posix;
 mod random;
 
-use library::{mark, vet, Marked, Vetted};
+use library::{mark, vet, vet_in, Marked, Vetted};
 use random::Random;
 
 struct Tally {
@@ -194,6 +194,38 @@ fn edges(t: &mut Tally) {
     refuses(t, &open, 5);
 }
 
+/// Scratch with garbage in it changes nothing, and too little of it is refused.
+fn scratch(t: &mut Tally) {
+    let stars = b"a*".repeat(60);
+    for p in [&b"colou?r"[..], b"(a|a)b", b"(a|b|ab)*c", &stars] {
+        for seed in 0..4 {
+            t.same(vet_in(p, EVIDENCE, 8192, seed), vet(p, EVIDENCE, seed), &format!("vet {} in lent scratch", show(p)));
+        }
+        t.same(vet_in(p, EVIDENCE, 9000, 5), vet(p, EVIDENCE, 5), &format!("vet {} in more scratch", show(p)));
+        t.same(vet_in(p, EVIDENCE, 8191, 5), Ok(Vetted::Refused(2)), "8,191 numbers of scratch");
+    }
+    t.same(vet_in(b"a", 4095, 8191, 6), Ok(Vetted::Refused(1)), "refusal 1 before 2");
+    t.same(vet_in(b"(", EVIDENCE, 0, 6), Ok(Vetted::Refused(2)), "refusal 2 before 5");
+    t.same(vet_in(b"(", EVIDENCE, 8192, 6), Ok(Vetted::Refused(5)), "refusal 5 in lent scratch");
+}
+
+/// Calls from several threads at once give what one thread is given.
+fn threads(t: &mut Tally) {
+    let mut r = Random::new(77);
+    let patterns: Vec<Vec<u8>> = (0..200).map(|k| random::pattern(&mut r, k % 2 == 0)).collect();
+    let work = |patterns: &[Vec<u8>]| -> Vec<_> {
+        patterns.iter().map(|p| (vet(p, EVIDENCE, 9), vet_in(p, EVIDENCE, 8192, 9), mark(p, b"abab"), mark(p, b""))).collect()
+    };
+    let alone = work(&patterns);
+    let same = std::thread::scope(|s| {
+        let all: Vec<_> = (0..8).map(|_| s.spawn(|| (0..10).all(|_| work(&patterns) == alone))).collect();
+        all.into_iter().map(|h| h.join().unwrap()).collect::<Vec<bool>>()
+    });
+    for ok in same {
+        t.check(ok, || "a thread was given something else".into());
+    }
+}
+
 fn random_cases(t: &mut Tally, patterns: usize, seed: u64) {
     println!("random patterns: {patterns}, seed {seed}");
     let mut r = Random::new(seed);
@@ -245,6 +277,8 @@ fn main() {
     let mut t = Tally { passed: 0, failed: 0 };
     specimens(&mut t);
     edges(&mut t);
+    scratch(&mut t);
+    threads(&mut t);
     random_cases(&mut t, patterns, seed);
     println!("{} passed, {} failed", t.passed, t.failed);
     std::process::exit(i32::from(t.failed > 0));

@@ -17,7 +17,11 @@ same-length : tie.Need-same-length
 same-length c = search needs
 
 returns : tie.Need-returns
-returns c = (λ F S. hunt-begin (c .before .before .before .before .before .before .before .args .scratch .now) (c .before .before .before .before .before .before .before .args .goal) (c .before .before .before .before .before .before .before .args .start) (c .only .result) (c .before .is-goal .result) (c .before .before .before .before .before .before .before .pre .0) (c .before .before .before .before .before .before .before .pre .1) (c .only .ensures) (c .before .is-goal .ensures) F S (c .before .before .before .before .push .last .0) (c .before .before .before .before .push .ensures), c .before .is-goal .ensures)
+returns c =
+    let g = c .before .is-goal in
+    let p = c .before .before .before .before .push in
+    let s = c .before .before .before .before .before .before .before in
+    (λ F S. hunt-begin (s .args .scratch .now) (s .args .goal) (s .args .start) (c .only .result) (g .result) (s .pre .0) (s .pre .1) (c .only .ensures) (g .ensures) F S (p .last .0) (p .ensures), g .ensures)
 
 pub begin-spec : {M : Type 1} → statement M
 begin-spec = tie.close (tie.spec push-requires is-goal-requires only-requires same-length returns)

@@ -39,14 +39,18 @@ loop-again : tie.Need-loop-again Inv-loop μ-loop
 loop-again c =
     let sets = c .before .before .before .args .sets in
     let l = c .before .before .loop in
+    let r = c .sharing .result in
+    let rows = set (l .rows) (l .a) r in
     let size = l .inv .1 .0 in (
       omega arith,
       (
-        length-set (l .rows) (l .a) (c .sharing .result) ∙ l .inv .1 .0,
+        length-set (l .rows) (l .a) r ∙ l .inv .1 .0,
         λ i b k m.
             by-equal i (l .a)
-            (λ z. ap (λ (x : ℕ). hasBit x b) (ap (λ (j : ℕ). getD (set (l .rows) (l .a) (c .sharing .result)) j 0) z ∙ getD-set-same (l .rows) (l .a) (c .sharing .result) 0 (omega arith)) ∙ c .sharing .ensures b m ∙ ap (λ (j : ℕ). someLetter (held sets j b)) (sym z))
-            (λ d. ap (λ (x : ℕ). hasBit x b) (getD-set-other (l .rows) (l .a) i (c .sharing .result) 0 d) ∙ l .inv .1 .1 i b (omega arith) m),
+            (λ z.
+            let here : getD rows i 0 ≡ r = ap (λ (j : ℕ). getD rows j 0) z ∙ getD-set-same (l .rows) (l .a) r 0 (omega arith) in
+            ap (λ (x : ℕ). hasBit x b) here ∙ c .sharing .ensures b m ∙ ap (λ (j : ℕ). someLetter (held sets j b)) (sym z))
+            (λ d. ap (λ (x : ℕ). hasBit x b) (getD-set-other (l .rows) (l .a) i r 0 d) ∙ l .inv .1 .1 i b (omega arith) m),
       ),
     )
 

@@ -1,80 +1,69 @@
--- The outer loop has passed positions that are no pivots; the inner one is a search from q for both paths back at q. Assumes
--- nothing.
-use mathlib.Core.Path.{_≡_, refl, sym, _∙_}
-use mathlib.Core.Bool.{false, true≢false}
-use Prim.Native.Nat.{_+_, _-_, _*_, _≤_}
+-- The outer loop has passed positions that are no pivots; the inner one is a search from q for both paths back at q.
+-- Assumes nothing.
+use mathlib.Core.Path.{refl, sym, _∙_}
+use mathlib.Core.Bool.{true≢false}
+use Prim.Native.Nat.{_+_, _-_, _*_}
 use native.Mathlib.Nat.{le-refl}
 use native.Mathlib.Omega.{arith}
-use lib.ListN.{length}
-use Rattle.graph.proofs.Walks.{position-of}
-use Rattle.walk.specs.Walks.{Hunted}
 use Rattle.walk.proofs.Walking.{hunt-next, visit-less}
-use Rattle.walk.proofs.Pivoting.{onlyAt, start-no-goal, NoneBelow, none-more, pivot-first, none-first}
+use Rattle.walk.proofs.Pivoting.{start-no-goal, none-yet, none-more, pivot-first, none-first, Looking, Passing}
 use Rattle.walk.proofs.first_pivot.Statement.{statement}
 use Rattle.walk.proofs.first_pivot.Tie as tie
 
 abbrev Inv-loop : tie.InvT-loop
-Inv-loop follow shares scratch₀ places q at₀ goal w₀ scratch at w = (length scratch ≡ length scratch₀) × ((at ≡ at₀) × (Hunted follow shares scratch goal q w × (w .found ≡ false)))
+Inv-loop follow shares scratch₀ places q at₀ goal w₀ scratch at w = Looking follow shares scratch₀ scratch goal q at₀ at w
 
 abbrev μ-loop : tie.MeasureT-loop
 μ-loop follow shares scratch₀ places q at₀ goal w₀ scratch at w = 4000 * (2048 - w .tail) + (w .tail - w .head)
 
 abbrev Inv-pivots : tie.InvT-pivots
-Inv-pivots follow shares scratch₀ places q₀ at₀ scratch q at = (length scratch ≡ length scratch₀) × ((1 ≤ q) × ((at ≡ 0) × NoneBelow follow shares places q))
+Inv-pivots follow shares scratch₀ places q₀ at₀ scratch q at = Passing follow shares scratch₀ scratch places q at
 
 abbrev μ-pivots : tie.MeasureT-pivots
 μ-pivots follow shares scratch₀ places q₀ at₀ scratch q at = places + 1 - q
 
 pivots-holds : tie.Need-pivots-holds Inv-loop μ-loop Inv-pivots μ-pivots
-pivots-holds c = (refl, (le-refl 1, (refl, λ g rows sh e k i l. absurd (let p = position-of g k i in omega arith))))
+pivots-holds c = record { size = refl; low = le-refl 1; still = refl; none = none-yet }
 
 only-requires : tie.Need-only-requires Inv-loop μ-loop Inv-pivots μ-pivots
 only-requires c κs = omega (arith, c .before .before .before .pre .1, c .pivots-test .taken)
 
 begin-requires : tie.Need-begin-requires Inv-loop μ-loop Inv-pivots μ-pivots
 begin-requires c κs =
-    let s = c .before .before .before .before .before in
-    let l = c .before .before .before .pivots in
-    (omega (arith, s .pre .0, l .inv .0), omega (arith, s .pre .1, c .before .before .pivots-test .taken))
+    let i = c .before .before in
+    let s = i .before .before .before in
+    (omega (arith, s .pre .0, i .before .pivots .inv .size), omega (arith, s .pre .1, i .pivots-test .taken))
 
 loop-holds : tie.Need-loop-holds Inv-loop μ-loop Inv-pivots μ-pivots
 loop-holds c =
-    let s = c .before .before .before .before .before .before .before .before in
-    let b = c .before .before .begin in (
-      refl,
-      (
-        refl,
-        (
-          b .ensures .0 (s .args .follow .now) (s .args .shares .now),
-          b .ensures .1 ∙ start-no-goal (c .before .before .before .before .only .result) (c .before .before .before .before .before .before .pivots .q) (omega (arith, s .pre .1, c .before .before .before .before .before .pivots-test .taken)),
-        ),
-      ),
-    )
+    let b = c .before .before .begin in
+    let o = c .before .before .before .before in
+    let i = o .before in
+    let s = i .before .before .before in
+    record {
+      size = refl;
+      still = refl;
+      hunted = b .ensures .0 (s .args .follow .now) (s .args .shares .now);
+      none = b .ensures .1 ∙ start-no-goal (o .only .result) (i .before .pivots .q) (omega (arith, s .pre .1, i .pivots-test .taken));
+    }
 
 visit-requires : tie.Need-visit-requires Inv-loop μ-loop Inv-pivots μ-pivots
-visit-requires c κs = c .before .before .before .loop .inv .1 .1 .0 .real .walked .long
-
--- what a visit leaves of the search
-hunted : (c : tie.After-slice-known3 Inv-loop μ-loop Inv-pivots μ-pivots)
-    → Hunted (c .before .before .before .before .before .before .before .before .before .before .before .before .before .before .before .args .follow .now) (c .before .before .before .before .before .before .before .before .before .before .before .before .before .before .before .args .shares .now) (c .before .before .visit .last .1 .1 .0) (onlyAt (c .before .before .before .before .before .before .before .before .before .before .before .only .result)) (c .before .before .before .before .before .before .before .before .before .before .before .before .before .pivots .q) (c .before .before .visit .result)
-hunted c =
-    let v = c .before .before .visit in
-    let h = c .before .before .before .before .before .before .loop .inv .1 .1 in
-    hunt-next (h .0) (h .1) (v .ensures .right (h .0 .real))
+visit-requires c κs = c .before .before .before .loop .inv .hunted .real .walked .long
 
 loop-less : tie.Need-loop-less Inv-loop μ-loop Inv-pivots μ-pivots
 loop-less c =
     let v = c .before .before .before .visit in
-    let h = c .before .before .before .before .before .before .before .loop .inv .1 .1 in
-    visit-less (h .0) (h .1) (v .ensures .right (h .0 .real)) (c .before .before .before .before .before .if1 .taken)
+    let l = c .before .before .before .before .before .before .before .loop in
+    visit-less (l .inv .hunted) (l .inv .none) (v .ensures .right (l .inv .hunted .real)) (c .before .before .before .before .before .if1 .taken)
 
 loop-again : tie.Need-loop-again Inv-loop μ-loop Inv-pivots μ-pivots
 loop-again c =
+    let v = c .before .before .before .visit in
     let l = c .before .before .before .before .before .before .before .loop in
-    (c .before .before .before .visit .kept .1 .1 .0 ∙ l .inv .0, (l .inv .1 .0, (hunted (c .before), c .if2 .left)))
+    record { size = v .kept .1 .1 .0 ∙ l .inv .size; still = l .inv .still; hunted = hunt-next (l .inv .hunted) (l .inv .none) (v .ensures .right (l .inv .hunted .real)); none = c .if2 .left }
 
 add-q : tie.Need-add-q Inv-loop μ-loop Inv-pivots μ-pivots
-add-q c = omega (arith, c .before .before .before .before .before .before .before .before .before .before .before .pre .1, c .before .before .before .before .before .before .before .before .pivots-test .taken)
+add-q c = let i = c .before .before .before .before .before .before .before .before in omega (arith, i .before .before .before .pre .1, i .pivots-test .taken)
 
 pivots-less : tie.Need-pivots-less Inv-loop μ-loop Inv-pivots μ-pivots
 pivots-less c = omega (arith, c .before .before .before .before .before .before .before .before .pivots-test .taken)
@@ -82,30 +71,39 @@ pivots-less c = omega (arith, c .before .before .before .before .before .before 
 pivots-again : tie.Need-pivots-again Inv-loop μ-loop Inv-pivots μ-pivots
 pivots-again c =
     let l = c .before .before .loop in
-    let b = c .before .before .before .before .before .begin in
     let o = c .before .before .before .before .before .before .before in
-    let p = o .before .before .pivots in (
-      l .inv .0 ∙ b .kept .0 ∙ p .inv .0,
-      (omega arith, (l .inv .1 .0 ∙ p .inv .1 .1 .0, none-more (p .inv .1 .0) (o .before .pivots-test .taken) (o .only .ensures) (p .inv .1 .1 .1) (record { hunted = l .inv .1 .1 .0; over = λ f. omega (arith, l .inv .1 .1 .0 .real .walked .within, c .if1 .left) }) (l .inv .1 .1 .1))),
-    )
+    let p = o .before .before .pivots in
+    record {
+      size = l .inv .size ∙ c .before .before .before .before .before .begin .kept .0 ∙ p .inv .size;
+      low = omega (arith, p .inv .low);
+      still = l .inv .still ∙ p .inv .still;
+      none = none-more (p .inv .low) (o .before .pivots-test .taken) (o .only .ensures) (p .inv .none)
+          (record { hunted = l .inv .hunted; over = λ f. omega (arith, l .inv .hunted .real .walked .within, c .if1 .left) }) (l .inv .none);
+    }
 
 same-length : tie.Need-same-length Inv-loop μ-loop Inv-pivots μ-pivots
-same-length c = c .before .pivots .inv .0
+same-length c = c .before .pivots .inv .size
 
 returns : tie.Need-returns Inv-loop μ-loop Inv-pivots μ-pivots
 returns c g rows sh e =
-    let s = c .before .before .before in
     let p = c .before .pivots in
-    none-first (s .args .follow .now) (s .args .shares .now) (s .args .places) (p .q) (omega (arith, c .pivots-test .left)) (p .inv .1 .1 .1) g rows sh e ∙ sym (p .inv .1 .1 .0)
+    none-first (omega (arith, c .pivots-test .left)) (p .inv .none) g rows sh e ∙ sym (p .inv .still)
 
 same-length-2 : tie.Need-same-length-2 Inv-loop μ-loop Inv-pivots μ-pivots
-same-length-2 c = c .before .before .before .visit .kept .1 .1 .0 ∙ c .before .before .before .before .before .before .before .loop .inv .0 ∙ c .before .before .before .before .before .before .before .before .before .before .begin .kept .0 ∙ c .before .before .before .before .before .before .before .before .before .before .before .before .before .before .pivots .inv .0
+same-length-2 c =
+    let v = c .before .before .before .visit in
+    let l = c .before .before .before .before .before .before .before .loop in
+    let b = c .before .before .before .before .before .before .before .before .before .before in
+    v .kept .1 .1 .0 ∙ l .inv .size ∙ b .begin .kept .0 ∙ b .before .before .before .before .pivots .inv .size
 
 returns-2 : tie.Need-returns-2 Inv-loop μ-loop Inv-pivots μ-pivots
 returns-2 c =
+    let v = c .before .before .before .visit in
+    let l = c .before .before .before .before .before .before .before .loop in
     let o = c .before .before .before .before .before .before .before .before .before .before .before .before in
     let p = o .before .before .pivots in
-    pivot-first (p .inv .1 .0) (o .before .pivots-test .taken) (o .only .ensures) (p .inv .1 .1 .1) (record { hunted = hunted (c .before); over = λ f. absurd (true≢false (sym (c .if2 .taken) ∙ f)) }) (c .if2 .taken)
+    pivot-first (p .inv .low) (o .before .pivots-test .taken) (o .only .ensures) (p .inv .none)
+    (record { hunted = hunt-next (l .inv .hunted) (l .inv .none) (v .ensures .right (l .inv .hunted .real)); over = λ f. absurd (true≢false (sym (c .if2 .taken) ∙ f)) }) (c .if2 .taken)
 
 pub first-pivot-spec : {M : Type 1} → statement M
 first-pivot-spec =

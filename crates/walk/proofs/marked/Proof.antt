@@ -48,7 +48,11 @@ element-write-r-2 : tie.Need-element-write-r-2
 element-write-r-2 c = omega (arith, bound (c .before .before .before .before))
 
 returns-2 : tie.Need-returns-2
-returns-2 c = mark-two (c .before .before .before .before .before .args .w) (c .before .before .before .before .before .args .y) (c .before .before .with2 .result) (c .with3 .result) (c .before .before .before .before .before .pre) (c .before .before .before .before .if1 .left) (c .before .before .with2 .ensures) (c .with3 .ensures)
+returns-2 c =
+    let m = c .before .before .with2 in
+    let e = c .before .before .before .before in
+    let s = e .before in
+    mark-two (s .args .w) (s .args .y) (m .result) (c .with3 .result) (s .pre) (e .if1 .left) (m .ensures) (c .with3 .ensures)
 
 pub marked-spec : {M : Type 1} → statement M
 marked-spec =

@@ -3,7 +3,7 @@ use Prim.Native.Nat.{ℕ, _≤_}
 use native.Mathlib.Omega.{arith}
 use Rattle.bits.proofs.Walk.{Passed, passed-start, passed-turn, passed-end}
 use Rattle.walk.specs.Nodes.{Free}
-use Rattle.walk.proofs.Nodes.{to-free, free-none}
+use Rattle.walk.proofs.Nodes.{partner-in, partner-free, free-none}
 use Rattle.walk.proofs.new_pair.Statement.{statement}
 use Rattle.walk.proofs.new_pair.Tie as tie
 
@@ -40,21 +40,19 @@ partners-requires c κs = c .before .before .lowest .ensures .0
 lowest-requires-2 : tie.Need-lowest-requires-2 Inv-loop μ-loop
 lowest-requires-2 c κs = omega (arith, c .if1 .taken)
 
--- the pair that is found
-free : (c : tie.After-lowest2 Inv-loop μ-loop)
-    → Free (c .before .before .before .before .before .before .before .before .args .shares .now) (c .before .before .before .before .before .before .before .before .args .seen .now) (c .before .before .before .before .before .before .before .before .args .from) (c .before .before .before .before .before .before .before .before .args .to) (c .before .before .before .before .before .before .before .before .args .parted) (c .before .before .before .before .before .lowest .result) (c .lowest2 .result) × (c .lowest2 .result ≤ 60)
-free c =
-    let s = c .before .before .before .before .before .before .before .before in
-    let a = c .before .before .before .before .before .lowest .result in
-    let b = c .lowest2 .result in
-    let f = to-free (s .args .shares .now) (s .args .seen .now) (s .args .from) (s .args .to) (s .args .parted) a b (c .before .before .partners .result) (c .before .before .partners .ensures b) (c .before .before .before .before .before .before .before .loop .inv .within a (c .before .before .before .before .before .lowest .ensures .1 .here)) (c .lowest2 .ensures .1 .here) in
-    (f, s .pre .1 b (f .right))
-
 pair-requires : tie.Need-pair-requires Inv-loop μ-loop
-pair-requires c κs = (place (c .before .before .before .before .before), free c .1)
+pair-requires c κs = (place (c .before .before .before .before .before), c .before .before .before .before .before .before .before .before .pre .1 (c .lowest2 .result) (partner-in (c .before .before .partners .ensures) (c .lowest2 .result) (c .lowest2 .ensures .1 .here)))
 
 returns : tie.Need-returns Inv-loop μ-loop
-returns c = record { some = λ l. (c .before .before .before .before .before .before .lowest .result, c .before .lowest2 .result, free (c .before) .0, c .pair .ensures .0); none = λ l. absurd (omega (arith, c .pair .ensures .1)) }
+returns c =
+    let b = c .before .lowest2 in
+    let p = c .before .before .before .partners in
+    let a = c .before .before .before .before .before .before .lowest in
+    let l = c .before .before .before .before .before .before .before .before .loop in
+    record {
+      some = λ _. (a .result, b .result, partner-free (p .ensures) (l .inv .within (a .result) (a .ensures .1 .here)) (b .ensures .1 .here), c .pair .ensures .0);
+      none = λ h. absurd (omega (arith, c .pair .ensures .1));
+    }
 
 rest-requires : tie.Need-rest-requires Inv-loop μ-loop
 rest-requires c κs = omega (arith, c .before .before .before .before .before .loop-test .taken)
@@ -64,13 +62,16 @@ loop-less c = c .rest .ensures .0
 
 loop-again : tie.Need-loop-again Inv-loop μ-loop
 loop-again c =
-    let s = c .before .before .before .before .before .before .before .before in
-    let a = c .before .before .before .before .before .lowest .result in
-    passed-turn (s .args .from) (c .before .before .before .before .before .before .before .loop .left) a (c .rest .result) _ (c .before .before .before .before .before .before .before .loop .inv) (c .before .before .before .before .before .lowest .ensures .1) (c .rest .ensures .1 a (c .before .before .before .before .before .lowest .ensures .1))
-    (λ b. free-none (s .args .shares .now) (s .args .seen .now) (s .args .from) (s .args .to) (s .args .parted) a b (c .before .before .partners .result) (c .before .before .partners .ensures b) (omega (arith, c .before .if1 .left)))
+    let e = c .before in
+    let p = e .before .partners in
+    let a = e .before .before .before .before .lowest in
+    let l = e .before .before .before .before .before .before .loop in
+    passed-turn _ (l .left) (a .result) (c .rest .result) _ (l .inv) (a .ensures .1) (c .rest .ensures .1 (a .result) (a .ensures .1)) (λ b. free-none (p .ensures) (omega (arith, e .if1 .left)))
 
 returns-2 : tie.Need-returns-2 Inv-loop μ-loop
-returns-2 c = record { some = λ l. absurd (omega arith); none = λ l a b f. passed-end _ (c .before .loop .left) _ (c .before .loop .inv) (omega (arith, c .loop-test .left)) a (f .left) b f }
+returns-2 c =
+    let l = c .before .loop in
+    record { some = λ h. absurd (omega arith); none = λ h a b f. passed-end _ (l .left) _ (l .inv) (omega (arith, c .loop-test .left)) a (f .left) b f }
 
 pub new-pair-spec : {M : Type 1} → statement M
 new-pair-spec =

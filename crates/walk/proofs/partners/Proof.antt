@@ -17,11 +17,14 @@ others-requires : tie.Need-others-requires
 others-requires c κs = search needs
 
 returns : tie.Need-returns
-returns c b =
+returns c =
     let s = c .before .before .before in
-    c .others .ensures b
-    ∙ ap (λ (t : Bool). t && (s .args .parted || not (eqb (s .args .a) b)))
-    (c .before .minus .ensures b ∙ ap (λ (t : Bool). t && not (hasBit (s .args .seen) b)) (c .before .before .both .ensures b))
+    record {
+      bits = λ b.
+          c .others .ensures b
+          ∙ ap (λ (t : Bool). t && (s .args .parted || not (eqb (s .args .a) b)))
+          (c .before .minus .ensures b ∙ ap (λ (t : Bool). t && not (hasBit (s .args .seen) b)) (c .before .before .both .ensures b));
+    }
 
 pub partners-spec : {M : Type 1} → statement M
 partners-spec = tie.close (tie.spec both-requires minus-requires others-requires returns)

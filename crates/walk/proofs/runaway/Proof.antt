@@ -24,16 +24,20 @@ pivot c = let s = c .before .before .before .before .before in record { is = s .
 arrives : (c : tie.After-show) → c .show .result ≤ 60
 arrives c =
     let o = c .before .before .before .before .before in
-    let fit = c .before .before .before .before .before .before .before .before .before .before .pre .0 in
+    let s = o .before .before .before .before .before in
+    let fit = s .pre .0 in
     way-in-short fit (pivot o) (way-in-told fit (pivot o) (c .show .ensures))
 
 loops : (c : tie.After-show2) → c .show2 .result ≤ 1890
-loops c = let s = c .before .before .before .before .before .before .before .before .before .before .before .before .before .before .before .before .before .before in loops-told (s .pre .0) (pivot (c .before .before .before .before .before .before .before .before .before .before .before .before .before)) (s .pre .1) (c .show2 .ensures) .few
+loops c =
+    let o = c .before .before .before .before .before .before .before .before .before .before .before .before .before in
+    let s = o .before .before .before .before .before in
+    loops-told (s .pre .0) (pivot o) (s .pre .1) (c .show2 .ensures) .few
 
 show-requires-2 : tie.Need-show-requires-2
 show-requires-2 c κs =
     let x = c .before .before .before .before .before .before .before in
-    let s = c .before .before .before .before .before .before .before .before .before .before .before .before .before .before .before .before .before in
+    let s = x .before .before .before .before .before .before .before .before .before .before in
     let fit = s .pre .0 in (
       omega (arith, s .pre .5, x .show .kept .1 .1 .1 .0),
       first-low fit (s .pre .2) (s .pre .3),
@@ -43,13 +47,16 @@ show-requires-2 c κs =
     )
 
 add-show : tie.Need-add-show
-add-show c = omega (arith, arrives (c .before .before .before .before .before .before .before .before .before .before .before .before .before .before .before .before), loops (c .before .before .before .before .before .before .before .before))
+add-show c =
+    let y = c .before .before .before .before .before .before .before .before in
+    let x = y .before .before .before .before .before .before .before .before in
+    omega (arith, arrives x, loops y)
 
 show-requires-3 : tie.Need-show-requires-3
 show-requires-3 c κs =
     let y = c .before .before .before .before .before .before .before .before in
-    let x = c .before .before .before .before .before .before .before .before .before .before .before .before .before .before .before .before in
-    let s = c .before .before .before .before .before .before .before .before .before .before .before .before .before .before .before .before .before .before .before .before .before .before .before .before .before .before in
+    let x = y .before .before .before .before .before .before .before .before in
+    let s = x .before .before .before .before .before .before .before .before .before .before in
     let fit = s .pre .0 in (
       omega (arith, s .pre .5, x .show .kept .1 .1 .1 .0, y .show2 .kept .1 .1 .1 .0),
       first-low fit (s .pre .2) (s .pre .3),

@@ -40,10 +40,15 @@ loop-less : tie.Need-loop-less Inv-loop μ-loop
 loop-less c = back (c .before)
 
 loop-again : tie.Need-loop-again Inv-loop μ-loop
-loop-again c = count-next (c .before .before .before .args .scratch .now) (c .before .before .before .args .i) (c .before .before .loop .j) (c .before .before .loop .n) (c .before .loop-test .taken) (back (c .before)) (c .before .before .loop .inv)
+loop-again c =
+    let i = c .before in
+    let l = i .before .loop in
+    count-next (i .loop-test .taken) (back i) (l .inv)
 
 returns : tie.Need-returns Inv-loop μ-loop
-returns c = count-end (c .before .before .args .scratch .now) (c .before .before .args .i) (c .before .loop .j) (c .before .loop .n) (omega (arith, c .loop-test .left)) (c .before .loop .inv)
+returns c =
+    let l = c .before .loop in
+    count-end (omega (arith, c .loop-test .left)) (l .inv)
 
 pub steps-spec : {M : Type 1} → statement M
 steps-spec =

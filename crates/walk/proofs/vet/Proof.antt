@@ -16,9 +16,9 @@ first-pivot-requires c κs = search needs
 unless-runaway-requires : tie.Need-unless-runaway-requires
 unless-runaway-requires c κs =
     let b = c .before .before .before in
-    let q = c .before .before .before .before .before .before .first-pivot in
-    let rows = c .before .before .before .before .before .before .before .before .before .before .fill in
-    let s = c .before .before .before .before .before .before .before .before .before .before .before .before .before .before .before .before in
+    let q = b .before .before .before .first-pivot in
+    let rows = b .before .before .before .before .before .before .before .fill in
+    let s = b .before .before .before .before .before .before .before .before .before .before .before .before .before in
     let fit = s .pre .0 in
     let sh = shares-of fit (rows .last .1 .0) (rows .ensures .0) in
     let first = q .ensures (shows (s .args .b)) (rows-of fit) sh refl in
@@ -36,9 +36,9 @@ returns c = search needs
 runaway-requires : tie.Need-runaway-requires
 runaway-requires c κs =
     let b = c .before .before .before in
-    let q = c .before .before .before .before .before .before .first-pivot in
-    let rows = c .before .before .before .before .before .before .before .before .before .before .fill in
-    let s = c .before .before .before .before .before .before .before .before .before .before .before .before .before .before .before .before in
+    let q = b .before .before .before .first-pivot in
+    let rows = b .before .before .before .before .before .before .before .fill in
+    let s = b .before .before .before .before .before .before .before .before .before .before .before .before .before in
     let fit = s .pre .0 in
     let sh = shares-of fit (rows .last .1 .0) (rows .ensures .0) in
     let first = q .ensures (shows (s .args .b)) (rows-of fit) sh refl in

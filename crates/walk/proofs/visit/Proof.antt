@@ -63,7 +63,7 @@ returns-2 c =
     let p = c .before .before .before .before .push in
     let t = c .before .before .before .before .before .before in
     let n = t .before .next-new in
-    let i = c .before .before .before .before .before .before .before .before .before .before in
+    let i = t .before .before .before .before in
     let l = i .before .loop in
     record {
       ends = inl (c .marked .ensures .tail);

@@ -1,0 +1,38 @@
+/*
+ * Both calls on the patterns that take the most stack, in the main thread: to be run under a limit of 3 MiB.
+ */
+#include "marking.h"
+
+#include <stdio.h>
+#include <string.h>
+
+static int failed;
+
+static void refusal_is(const char *name, const uint8_t *pattern, size_t len, unsigned want) {
+    uint8_t evidence[MARKING_EVIDENCE];
+    uint64_t count = 0;
+    unsigned vet = marking_vet_refusal(marking_vet(pattern, len, evidence, sizeof evidence));
+    unsigned mark = marking_mark_refusal(marking_mark(pattern, len, (const uint8_t *)"a", 1, &count));
+    if (vet != want || mark != want) {
+        printf("%s: refusals %u and %u, want %u\n", name, vet, mark, want);
+        failed = 1;
+    }
+}
+
+int main(void) {
+    uint8_t pattern[512];
+    memset(pattern, '(', 512);
+    refusal_is("512 times (", pattern, 512, 5);
+    pattern[255] = 'a';
+    memset(pattern + 256, ')', 255);
+    refusal_is("255 nested", pattern, 511, 0);
+    memset(pattern, 'a', 512);
+    refusal_is("512 letters", pattern, 512, 8);
+    for (size_t i = 0; i < 510; i++)
+        pattern[i] = (uint8_t)"(a|"[i % 3];
+    refusal_is("170 times (a|", pattern, 510, 5);
+    for (size_t i = 0; i < 512; i++)
+        pattern[i] = (uint8_t)"a("[i % 2];
+    refusal_is("256 times a(", pattern, 512, 5);
+    return failed;
+}
