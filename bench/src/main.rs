@@ -195,9 +195,45 @@ fn reading() {
     }
 }
 
+/// How the library's time grows with an answer's letters and with a pattern's positions, and what a term takes.
+fn growth() {
+    println!("\ngrowth with letters, every position possible");
+    let pattern = &loads()[0].pattern;
+    for letters in [0, 256, 512, 1024, 2048, 4096] {
+        let answer = vec![b'a'; letters];
+        let t = time(7, || {
+            black_box(mark(black_box(pattern), black_box(&answer))).ok();
+        });
+        println!("{letters:10} letters {:10.1}", t * 1e6);
+    }
+    println!("\ngrowth with positions");
+    let mut evidence = [0u8; 4096];
+    for positions in [10, 20, 30, 40, 50, 60] {
+        let pattern = b"a?".repeat(positions);
+        let t = time(7, || {
+            black_box(vet(black_box(&pattern), &mut evidence));
+        });
+        println!("{positions:10} positions, a? each {:10.1}", t * 1e6);
+    }
+    let list = patterns().pop().expect("ordinary patterns").1;
+    let vetting = time(7, || {
+        for k in 0..10_400 {
+            black_box(vet(&list[k % list.len()], &mut evidence));
+        }
+    });
+    let load = loads().pop().expect("ordinary text");
+    let marking = time(3, || {
+        for k in 0..36_000 {
+            black_box(mark(&load.pattern, &load.answers[k % load.answers.len()])).ok();
+        }
+    });
+    println!("\na term: 10,400 patterns {vetting:.3} s, 3.6 million answers {:.1} s", marking * 100.0);
+}
+
 fn main() {
     println!("microseconds a call; both sides are release builds\n");
     marking();
     vetting();
     reading();
+    growth();
 }
