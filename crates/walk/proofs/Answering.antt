@@ -73,7 +73,7 @@ module _ {b : Built} (fit : Vettable b) where
       let l = lowestLetter (g .holds a) in
       letter-some (bothHold g a a) l (c .0) (and-of (g .holds a l) (g .holds a l) (c .1) (c .1))
 
-  pub shares-of : (S : List ℕ) → ((a c : ℕ) → a ≤ 60 → c ≤ 60 → hasBit (getD S a 0) c ≡ someLetter (held (b .letters) a c)) → Shares g S
+  pub shares-of : (S : List ℕ) → ((a c : ℕ) → a ≤ b .places → c ≤ b .places → hasBit (getD S a 0) c ≡ someLetter (held (b .letters) a c)) → Shares g S
   shares-of S h =
       record { share = λ a c k l. let p = position-of g a k in let q = position-of g c l in h a c (omega arith) (omega arith); own = own }
 

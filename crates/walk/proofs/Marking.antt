@@ -1,5 +1,5 @@
 -- Taking a node up: a state in the set, or a pair in both of its rows. Assumes nothing.
-use mathlib.Core.Path.{_≡_, refl, sym, ap, ap₂, _∙_}
+use mathlib.Core.Path.{_≡_, sym, ap, ap₂, _∙_}
 use mathlib.Core.Logic.{⊎-elim}
 use mathlib.Core.Bool.{Bool, _&&_, _||_, or-false, or-comm, or-assoc, and-comm}
 use mathlib.Core.List.{List}
@@ -11,21 +11,16 @@ use lib.ListN.{getD, set, length-set}
 use lib.Seq.{getD-set-same, getD-set-other}
 use Rattle.basics.proofs.Tests.{and-parts, and-of, or-left, or-cases, le-or-lt, by-equal, same-test}
 use Rattle.bits.specs.Bits.{hasBit}
-use Rattle.walk.specs.declared.Walk.{Walk}
 use Rattle.walk.specs.Nodes.{IsNode, one, two, taken, Even}
 use Rattle.walk.specs.Walks.{Marked}
 use Rattle.walk.proofs.Nodes.{taken-low, taken-high}
 
-pub mark-one : (w : Walk) (y m : ℕ) → y < 64 → ((j : ℕ) → hasBit m j ≡ (hasBit (w .alone) j || eqb y j))
-    → Marked w y (record { head = w .head; tail = w .tail; found = w .found; alone = m; seen = w .seen })
-mark-one w y m l h = record {
-  head = refl;
-  tail = refl;
-  found = refl;
+pub mark-one : (seen : List ℕ) (alone y m : ℕ) → y < 64 → ((j : ℕ) → hasBit m j ≡ (hasBit alone j || eqb y j)) → Marked seen seen alone y m
+mark-one seen alone y m l h = record {
   takes = λ even z n.
       ⊎-elim
-      (λ k. taken-high m (w .seen) z k ∙ sym (ap₂ _||_ (taken-high (w .alone) (w .seen) z k) (ne-eqb y z (λ e. omega arith)) ∙ or-false (hasBit (getD (w .seen) (z / 64) 0) (z % 64))))
-      (λ k. taken-low m (w .seen) z k ∙ h z ∙ sym (ap (λ (t : Bool). t || eqb y z) (taken-low (w .alone) (w .seen) z k)))
+      (λ k. taken-high m seen z k ∙ sym (ap₂ _||_ (taken-high alone seen z k) (ne-eqb y z (λ e. omega arith)) ∙ or-false (hasBit (getD seen (z / 64) 0) (z % 64))))
+      (λ k. taken-low m seen z k ∙ h z ∙ sym (ap (λ (t : Bool). t || eqb y z) (taken-low alone seen z k)))
       (le-or-lt 64 z);
   even = λ even. even;
 }
@@ -99,18 +94,15 @@ module _ (seen : List ℕ) (a b m n : ℕ) (even : Even seen) (l : a ≤ 60) (k 
       taken-high alone (set (set seen a m) b n) (c * 64 + d) big ∙ ap₂ (λ i j. hasBit (getD (set (set seen a m) b n) i 0) j) left right ∙ rows c d
       ∙ sym (ap₂ _||_ (taken-high alone seen (c * 64 + d) big ∙ ap₂ (λ i j. hasBit (getD seen i 0) j) left right) (sym (hit-same a b c d h (omega arith) q (omega arith))))
 
-pub mark-two : (w : Walk) (y m n : ℕ) → IsNode y → 64 ≤ y → ((j : ℕ) → hasBit m j ≡ (hasBit (getD (w .seen) (y / 64) 0) j || eqb (y % 64) j))
-    → ((j : ℕ) → hasBit n j ≡ (hasBit (getD (set (w .seen) (y / 64) m) (y % 64) 0) j || eqb (y / 64) j))
-    → Marked w y (record { head = w .head; tail = w .tail; found = w .found; alone = w .alone; seen = set (set (w .seen) (y / 64) m) (y % 64) n })
-mark-two w y m n (one {a} g) h row other = absurd (omega arith)
-mark-two w y m n (two {a} {b} p q r) h row other =
+pub mark-two : (seen : List ℕ) (alone y m n : ℕ) → IsNode y → 64 ≤ y → ((j : ℕ) → hasBit m j ≡ (hasBit (getD seen (y / 64) 0) j || eqb (y % 64) j))
+    → ((j : ℕ) → hasBit n j ≡ (hasBit (getD (set seen (y / 64) m) (y % 64) 0) j || eqb (y / 64) j))
+    → Marked seen (set (set seen (y / 64) m) (y % 64) n) alone y alone
+mark-two seen alone y m n (one {a} g) h row other = absurd (omega arith)
+mark-two seen alone y m n (two {a} {b} p q r) h row other =
     let c : ℕ = (a * 64 + b) / 64 in
     let d : ℕ = (a * 64 + b) % 64 in
     let e : c * 64 + d ≡ a * 64 + b = omega arith in
     record {
-      head = refl;
-      tail = refl;
-      found = refl;
-      takes = λ even z k. rows-taken (w .seen) c d m n even (omega arith) (omega arith) row other (w .alone) (omega arith) (omega arith) z k ∙ ap (λ (x : ℕ). taken (w .alone) (w .seen) z || eqb x z) e;
-      even = λ even. rows-even (w .seen) c d m n even (omega arith) (omega arith) row other;
+      takes = λ even z k. rows-taken seen c d m n even (omega arith) (omega arith) row other alone (omega arith) (omega arith) z k ∙ ap (λ (x : ℕ). taken alone seen z || eqb x z) e;
+      even = λ even. rows-even seen c d m n even (omega arith) (omega arith) row other;
     }

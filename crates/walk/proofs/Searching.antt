@@ -67,7 +67,7 @@ module _ {F S s : List ℕ} {goal : Goal} {u : ℕ} {w : Walk} (over : Searched 
   pub none-found : w .found ≡ false → (c : List ℕ) → Chain (Step F S) u c → isGoal goal (endOf u c) ≡ false
   none-found e c h =
       let r = over .hunted .real .walked in
-      let done = subst (λ (n : ℕ). Walked (Step F S) (taken (w .alone) (w .seen)) s n (w .tail)) (over .over e) r in
+      let done = subst (λ (n : ℕ). Walked (Step F S) (taken (w .alone) (over .seen)) s n (w .tail)) (over .over e) r in
       let first = over .hunted .first in
       let q = complete done c 0 (r .begun) (subst (λ (x : ℕ). Chain (Step F S) x c) (sym first) h) in
       ap (λ (x : ℕ). isGoal goal (endOf x c)) (sym first) ∙ ap (isGoal goal) (sym (q .is)) ∙ over .hunted .none e (q .at) (q .low)

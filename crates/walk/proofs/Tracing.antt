@@ -161,7 +161,7 @@ linked i w l = let few = w .few in record { long = w .long; few = omega arith; l
 -- ---- a search that found its goal, with the text of the way to it
 
 module _ {F S s : List ℕ} {goal : Goal} {u : ℕ} {w : Walk} (over : Searched F S s goal u w) where
-  walked : Walked (Step F S) (taken (w .alone) (w .seen)) s (w .head) (w .tail)
+  walked : Walked (Step F S) (taken (w .alone) (over .seen)) s (w .head) (w .tail)
   walked = over .hunted .real .walked
 
   last-in : w .tail - 1 < w .tail

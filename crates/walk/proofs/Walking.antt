@@ -176,30 +176,26 @@ module _ {F S s : List ℕ} {h t alone : ℕ} {seen : List ℕ} (real : Real F S
   }
 
   -- what a visit that takes a node up leaves
-  pub took : {s0 s′ : List ℕ} {goal : Goal} {y : ℕ} {found : Bool} {r : Walk} → s ≡ s0 → h < t → Fresh F S alone seen (queue s h) y → s′ ≡ takeUp s y h t → found ≡ isGoal goal y
-      → Marked (record { head = h; tail = t + 1; found = found; alone = alone; seen = seen }) y r → Visited F S s0 s′ goal t r
-  took {goal = goal} {y = y} {r = r} same l f e g m =
+  pub took : {s0 s′ seen′ : List ℕ} {goal : Goal} {y m : ℕ} {found : Bool} → s ≡ s0 → h < t → Fresh F S alone seen (queue s h) y → s′ ≡ takeUp s y h t → found ≡ isGoal goal y
+      → Marked seen seen′ alone y m → Visited F S s0 s′ seen′ goal t (record { head = h; tail = t + 1; found = found; alone = m })
+  took {seen′ = seen′} {goal = goal} {y = y} {m = m} same l f e g mark =
       let q = fresh alone seen (real .even) F S (queue s h) y f in
       let node = step-node F S (queue s h) y (q .0) in
-      let T′ = taken (r .alone) (r .seen) in
-      let w = taken-up (real .walked) T′ y l (q .0) node (q .1) (m .takes (real .even)) in
+      let T′ = taken m seen′ in
+      let w = taken-up (real .walked) T′ y l (q .0) node (q .1) (mark .takes (real .even)) in
       let low = few-taken in
       let last = up-last s y h t (real .walked .long) (omega arith) in
       record {
-        real = record {
-          walked = subst (λ (x : List ℕ). Walked (Step F S) T′ x (r .head) (r .tail)) (sym e)
-              (subst (λ (n : ℕ). Walked (Step F S) T′ (takeUp s y h t) n (r .tail)) (sym (m .head)) (subst (Walked (Step F S) T′ (takeUp s y h t) h) (sym (m .tail)) w));
-          even = m .even (real .even);
-        };
+        real = record { walked = subst (λ (x : List ℕ). Walked (Step F S) T′ x h (t + 1)) (sym e) w; even = mark .even (real .even) };
         kept = λ i k. ap (λ (x : List ℕ). queue x i) e ∙ up-before s y h t (real .walked .long) (omega arith) i k ∙ ap (λ (x : List ℕ). queue x i) same;
-        outcome = inl (m .tail, m .found ∙ g ∙ ap (isGoal goal) (sym (ap (λ (x : List ℕ). queue x t) e ∙ last)));
+        outcome = inl (refl, g ∙ ap (isGoal goal) (sym (ap (λ (x : List ℕ). queue x t) e ∙ last)));
       }
 
 -- ---- a search
 
 -- the first node is all that is taken up
 pub hunt-begin : (s : List ℕ) (goal : Goal) (start m : ℕ) (found : Bool) → 4096 ≤ length s → start ≤ 60 → ((j : ℕ) → hasBit m j ≡ eqb start j) → found ≡ isGoal goal start
-    → (F S s′ : List ℕ) → s′ ≡ takeUp s start 0 0 → Hunted F S s′ goal start (record { head = 0; tail = 1; found = found; alone = m; seen = replicate 61 0 })
+    → (F S s′ : List ℕ) → s′ ≡ takeUp s start 0 0 → Hunted F S s′ (replicate 61 0) goal start (record { head = 0; tail = 1; found = found; alone = m })
 hunt-begin s goal start m found long low only g F S s′ e =
     let first : queue s′ 0 ≡ start = ap (λ (x : List ℕ). queue x 0) e ∙ up-last s start 0 0 long (omega arith) in
     record {
@@ -219,8 +215,8 @@ hunt-begin s goal start m found long low only g F S s′ e =
     takes z (one {a} l) = taken-low m (replicate 61 0) a (omega arith) ∙ only a
     takes z (two {a} {b} l k n) = taken-high m (replicate 61 0) (a * 64 + b) (omega arith) ∙ row ((a * 64 + b) / 64) ((a * 64 + b) % 64) ∙ sym (ne-eqb start (a * 64 + b) (λ y. omega arith))
 
-module _ {F S s s′ : List ℕ} {goal : Goal} {start : ℕ} {w r : Walk} (a : Hunted F S s goal start w) (none : w .found ≡ false) (v : Visited F S s s′ goal (w .tail) r) where
-  pub hunt-next : Hunted F S s′ goal start r
+module _ {F S s s′ seen seen′ : List ℕ} {goal : Goal} {start : ℕ} {w r : Walk} (a : Hunted F S s seen goal start w) (none : w .found ≡ false) (v : Visited F S s s′ seen′ goal (w .tail) r) where
+  pub hunt-next : Hunted F S s′ seen′ goal start r
   hunt-next =
       let t = w .tail in
       let old : (i : ℕ) → i < t → isGoal goal (queue s′ i) ≡ false = λ i l. ap (isGoal goal) (v .kept i l) ∙ a .none none i l in

@@ -47,13 +47,10 @@ pub record Real (F S s : List ℕ) (head tail alone : ℕ) (seen : List ℕ) : T
 unfoldable pub takeUp : List ℕ → ℕ → ℕ → ℕ → List ℕ
 takeUp s y from tail = set (set s tail y) (2048 + tail) from
 
--- y is taken up besides, and nothing else changes
-pub record Marked (w : Walk) (y : ℕ) (r : Walk) : Type 0 where
-  pub head : r .head ≡ w .head
-  pub tail : r .tail ≡ w .tail
-  pub found : r .found ≡ w .found
-  pub takes : Even (w .seen) → (z : ℕ) → IsNode z → taken (r .alone) (r .seen) z ≡ (taken (w .alone) (w .seen) z || eqb y z)
-  pub even : Even (w .seen) → Even (r .seen)
+-- y is taken up besides: the states taken up are now r
+pub record Marked (seen seen′ : List ℕ) (alone y r : ℕ) : Type 0 where
+  pub takes : Even seen → (z : ℕ) → IsNode z → taken r seen′ z ≡ (taken alone seen z || eqb y z)
+  pub even : Even seen → Even seen′
 
 -- both paths are in the set, parted or, for a search of one path, not
 unfoldable pub isGoal : Goal → ℕ → Bool
@@ -62,24 +59,25 @@ isGoal goal x =
     else hasBit (goal .mask) (x / 64) && hasBit (goal .mask) (x % 64)
 
 -- a visit of a walk of `tail` nodes: one more is taken up, or the walk is over
-pub record Visited (F S s s′ : List ℕ) (goal : Goal) (tail : ℕ) (r : Walk) : Type 0 where
-  pub real : Real F S s′ (r .head) (r .tail) (r .alone) (r .seen)
+pub record Visited (F S s s′ seen′ : List ℕ) (goal : Goal) (tail : ℕ) (r : Walk) : Type 0 where
+  pub real : Real F S s′ (r .head) (r .tail) (r .alone) seen′
   pub kept : (i : ℕ) → i < tail → queue s′ i ≡ queue s i
   pub outcome : ((r .tail ≡ tail + 1) × (r .found ≡ isGoal goal (queue s′ tail))) ⊎ ((r .tail ≡ tail) × (r .head ≡ r .tail) × (r .found ≡ false))
 
 -- a visit at any state: it takes one node up, or the walk is over; where the state is that of a walk, the walk goes on
-pub record Tried (F S s s′ : List ℕ) (goal : Goal) (w r : Walk) : Type 0 where
+pub record Tried (F S s s′ seen seen′ : List ℕ) (goal : Goal) (w r : Walk) : Type 0 where
   pub ends : (r .tail ≡ w .tail + 1) ⊎ ((r .tail ≡ w .tail) × (r .tail ≤ r .head))
-  pub right : Real F S s (w .head) (w .tail) (w .alone) (w .seen) → Visited F S s s′ goal (w .tail) r
+  pub right : Real F S s (w .head) (w .tail) (w .alone) seen → Visited F S s s′ seen′ goal (w .tail) r
 
 -- a search under way: only the last node taken up may be a goal, and `found` says whether it is
-pub record Hunted (F S s : List ℕ) (goal : Goal) (start : ℕ) (w : Walk) : Type 0 where
-  pub real : Real F S s (w .head) (w .tail) (w .alone) (w .seen)
+pub record Hunted (F S s seen : List ℕ) (goal : Goal) (start : ℕ) (w : Walk) : Type 0 where
+  pub real : Real F S s (w .head) (w .tail) (w .alone) seen
   pub first : queue s 0 ≡ start
   pub some : w .found ≡ true → isGoal goal (queue s (w .tail - 1)) ≡ true
   pub none : w .found ≡ false → (i : ℕ) → i < w .tail → isGoal goal (queue s i) ≡ false
 
--- a search that is over
+-- a search that is over, with the rows of pairs that it leaves
 pub record Searched (F S s : List ℕ) (goal : Goal) (start : ℕ) (w : Walk) : Type 0 where
-  pub hunted : Hunted F S s goal start w
+  pub seen : List ℕ
+  pub hunted : Hunted F S s seen goal start w
   pub over : w .found ≡ false → w .head ≡ w .tail

@@ -9,7 +9,7 @@ ghost use mathlib.Core.Bool.{true, not, _&&_, _||_};
 ghost use mathlib.Core.List.{List};
 ghost use Prim.Native.Nat.{ℕ, _+_, _≤_, _<_};
 ghost use lib.Dec.{eqb};
-ghost use lib.ListN.{length, getD};
+ghost use lib.ListN.{length, getD, replicate};
 ghost use Rattle.bits.specs.Bits.{hasBit};
 ghost use Rattle.letters.specs.Alphabet.{someLetter, isLetter};
 ghost use Rattle.letters.specs.LetterSet.{hasLetter};
@@ -24,14 +24,14 @@ ghost use Rattle.walk.specs.Answers.{Vettable, Vets};
 
 // A search under way. A node is a number: below 64 a state, where both paths are and have not parted; a * 64 + b, with
 // 1 <= b <= a, where they have parted and are now at a and b. `head` and `tail` bound the queue of nodes taken up whose steps are
-// still to be gone through. `alone` has the states taken up, and row a of `seen` has b, and row b has a, where the pair of a and
-// b is: so whether a node is new is one bit, and the new partners of a are one word.
+// still to be gone through. `alone` has the states taken up. The pairs taken up are in rows beside it, `seen`, which are lent and
+// not copied: row a has b, and row b has a, where the pair of a and b is: so whether a node is new is one bit, and the new
+// partners of a are one word.
 pub struct Walk {
     pub head: usize,
     pub tail: usize,
     pub found: bool,
     pub alone: u64,
-    pub seen: [u64; 61],
 }
 
 // Where a search is to end: a parted pair in `mask`, or for a search of one path a state in it.
@@ -140,21 +140,19 @@ fn next_new<'a>(
     new_pair(shares, seen, row(follow, a), row(follow, b), true)
 }
 
-// The state with the node y taken up besides.
-fn marked(w: Walk, y: usize) -> Walk
+// Takes the node y up besides: a pair in its rows, a state in the set that it gives.
+fn marked(seen: &mut [u64; 61], alone: u64, y: usize) -> u64
     requires { ⌜ IsNode y ⌝ }
-    ensures { λ r. ⌜ Marked w y r ⌝ }
+    ensures { λ r. ⌜ Marked (now (seen .entry)) (now (seen .exit)) alone y r ⌝ }
 {
-    let mut r = w;
     if y < 64 {
-        r.alone = bits::with(r.alone, y);
-        return r;
+        return bits::with(alone, y);
     }
     let a = y / 64;
     let b = y % 64;
-    r.seen[a] = bits::with(r.seen[a], b);
-    r.seen[b] = bits::with(r.seen[b], a);
-    r
+    seen[a] = bits::with(seen[a], b);
+    seen[b] = bits::with(seen[b], a);
+    alone
 }
 
 fn is_goal(goal: Goal, x: usize) -> bool
@@ -176,19 +174,17 @@ fn push(scratch: &mut [u16], tail: usize, y: usize, from: usize)
     scratch[BACK + tail] = from as u16;
 }
 
-// A search that has taken up its first node.
+// A search that has taken up its first node, and no pair.
 fn begin(scratch: &mut [u16], goal: Goal, start: usize) -> Walk
     requires { ⌜ (4096 ≤ length (now scratch)) × (start ≤ 60) ⌝ }
-    ensures { λ r. ⌜ ((F S : List ℕ) → Hunted F S (now (scratch .exit)) goal start r) × (r .found ≡ isGoal goal start) ⌝ }
+    ensures { λ r. ⌜ ((F S : List ℕ) → Hunted F S (now (scratch .exit)) (replicate 61 0) goal start r) ⌝ }
 {
     push(&mut *scratch, 0, start, 0);
-    let seen = [0u64; 61];
     Walk {
         head: 0,
         tail: 1,
         found: is_goal(goal, start),
         alone: bits::only(start),
-        seen,
     }
 }
 
@@ -197,39 +193,36 @@ fn begin(scratch: &mut [u16], goal: Goal, start: usize) -> Walk
 pub fn visit<'a>(
     follow: &'a [u64; 61],
     shares: &'a [u64; 61],
+    seen: &mut [u64; 61],
     scratch: &mut [u16],
     goal: Goal,
     w: Walk,
 ) -> Walk
     requires { ⌜ 4096 ≤ length (now scratch) ⌝ }
-    ensures { λ r. ⌜ Tried (now (follow .entry)) (now (shares .entry)) (now (scratch .entry)) (now (scratch .exit)) goal w r ⌝ }
+    ensures { λ r. ⌜ Tried (now (follow .entry)) (now (shares .entry)) (now (scratch .entry)) (now (scratch .exit)) (now (seen .entry)) (now (seen .exit)) goal w r ⌝ }
 {
     let tail = w.tail;
     let mut head = w.head;
     let alone = w.alone;
-    let seen = w.seen;
     if BACK <= tail {
         return Walk {
             head: tail,
             tail,
             found: false,
             alone,
-            seen,
         };
     }
     while head < tail {
         let x = scratch[head] as usize;
-        let y = next_new(follow, shares, &seen, alone, x);
+        let y = next_new(follow, shares, &*seen, alone, x);
         if y < NONE {
             push(&mut *scratch, tail, y, head);
-            let r = Walk {
+            return Walk {
                 head,
                 tail: tail + 1,
                 found: is_goal(goal, y),
-                alone,
-                seen,
+                alone: marked(&mut *seen, alone, y),
             };
-            return marked(r, y);
         }
         head += 1;
     }
@@ -238,7 +231,6 @@ pub fn visit<'a>(
         tail,
         found: false,
         alone,
-        seen,
     }
 }
 
@@ -253,9 +245,10 @@ fn search<'a>(
     requires { ⌜ (4096 ≤ length (now scratch)) × (start ≤ 60) ⌝ }
     ensures { λ r. ⌜ Searched (now (follow .entry)) (now (shares .entry)) (now (scratch .exit)) goal start r ⌝ }
 {
+    let mut seen = [0u64; 61];
     let mut w = begin(&mut *scratch, goal, start);
     while w.head < w.tail && !w.found {
-        w = visit(follow, shares, &mut *scratch, goal, w);
+        w = visit(follow, shares, &mut seen, &mut *scratch, goal, w);
     }
     w
 }
@@ -271,23 +264,18 @@ fn first_pivot<'a>(
     ensures { λ r. ⌜ ((g : Graph) → Rows g (now (follow .entry)) → Shares g (now (shares .entry)) → g .places ≡ places → firstPivot g ≡ r) ⌝ }
 {
     let mut q: usize = 1;
-    let mut at: usize = 0;
-    'pivots: while q <= places {
+    while q <= places {
         let goal = Goal {
             mask: bits::only(q),
             parted: true,
         };
-        let mut w = begin(&mut *scratch, goal, q);
-        while w.head < w.tail {
-            w = visit(follow, shares, &mut *scratch, goal, w);
-            if w.found {
-                at = q;
-                break 'pivots;
-            }
+        let w = search(follow, shares, &mut *scratch, goal, q);
+        if w.found {
+            return q;
         }
         q += 1;
     }
-    at
+    0
 }
 
 // Where the two paths of a node are.
@@ -399,15 +387,15 @@ fn with_if(mask: u64, i: usize, yes: bool) -> u64
     mask
 }
 
-// The numbers whose sets share a letter with that of a.
-fn sharing(sets: [LetterSet; 61], a: usize) -> u64
-    requires { ⌜ Lettered sets × (a ≤ 60) ⌝ }
-    ensures { λ r. ⌜ ((b : ℕ) → b ≤ 60 → hasBit r b ≡ someLetter (held sets a b)) ⌝ }
+// The numbers up to `places` whose sets share a letter with that of a.
+fn sharing(sets: [LetterSet; 61], a: usize, places: usize) -> u64
+    requires { ⌜ Lettered sets × (a ≤ 60) × (places ≤ 60) ⌝ }
+    ensures { λ r. ⌜ ((b : ℕ) → b ≤ places → hasBit r b ≡ someLetter (held sets a b)) ⌝ }
 {
     let s = sets[a];
     let mut word: u64 = 0;
     let mut b: usize = 0;
-    while b < 61 {
+    while b <= places {
         let t = sets[b];
         word = with_if(word, b, share(s, t));
         b += 1;
@@ -415,14 +403,14 @@ fn sharing(sets: [LetterSet; 61], a: usize) -> u64
     word
 }
 
-// The same for every number, in rows.
-fn fill(sets: [LetterSet; 61], rows: &mut [u64; 61])
-    requires { ⌜ Lettered sets × (length (now rows) ≡ 61) ⌝ }
-    ensures { λ _. ⌜ ((a b : ℕ) → a ≤ 60 → b ≤ 60 → hasBit (getD (now (rows .exit)) a 0) b ≡ someLetter (held sets a b)) × (length (now (rows .exit)) ≡ 61) ⌝ }
+// The same for every number up to `places`, in rows.
+fn fill(sets: [LetterSet; 61], rows: &mut [u64; 61], places: usize)
+    requires { ⌜ Lettered sets × (length (now rows) ≡ 61) × (places ≤ 60) ⌝ }
+    ensures { λ _. ⌜ ((a b : ℕ) → a ≤ places → b ≤ places → hasBit (getD (now (rows .exit)) a 0) b ≡ someLetter (held sets a b)) × (length (now (rows .exit)) ≡ 61) ⌝ }
 {
     let mut a: usize = 0;
-    while a < 61 {
-        rows[a] = sharing(sets, a);
+    while a <= places {
+        rows[a] = sharing(sets, a, places);
         a += 1;
     }
 }
@@ -546,7 +534,7 @@ pub fn vet(b: Built, evidence: &mut [u8], scratch: &mut [u16]) -> Vetted
     let follow = b.follow;
     let sets = b.letters;
     let mut shares = [0u64; 61];
-    fill(sets, &mut shares);
+    fill(sets, &mut shares, b.places);
     let q = first_pivot(&follow, &shares, &mut *scratch, b.places);
     if q == 0 {
         return unless_runaway(b, &shares, &mut *evidence, &mut *scratch);

@@ -1,6 +1,6 @@
 -- The rows passed are filled. Assumes nothing.
 use mathlib.Core.Path.{_≡_, sym, ap, _∙_}
-use Prim.Native.Nat.{ℕ, _-_, _≤_, _<_}
+use Prim.Native.Nat.{ℕ, _+_, _-_, _≤_, _<_}
 use native.Mathlib.Omega.{arith}
 use lib.ListN.{getD, set, length, length-set}
 use lib.Seq.{getD-set-same, getD-set-other}
@@ -12,16 +12,16 @@ use Rattle.walk.proofs.fill.Statement.{statement}
 use Rattle.walk.proofs.fill.Tie as tie
 
 abbrev Inv-loop : tie.InvT-loop
-Inv-loop sets rows₀ a₀ rows a = (a ≤ 61) × ((length rows ≡ 61) × ((i b : ℕ) → i < a → b ≤ 60 → hasBit (getD rows i 0) b ≡ someLetter (held sets i b)))
+Inv-loop sets rows₀ places a₀ rows a = (a ≤ places + 1) × ((length rows ≡ 61) × ((i b : ℕ) → i < a → b ≤ places → hasBit (getD rows i 0) b ≡ someLetter (held sets i b)))
 
 abbrev μ-loop : tie.MeasureT-loop
-μ-loop sets rows₀ a₀ rows a = 61 - a
+μ-loop sets rows₀ places a₀ rows a = places + 1 - a
 
 loop-holds : tie.Need-loop-holds Inv-loop μ-loop
 loop-holds c = (omega arith, (c .pre .1, λ i b l. absurd (omega arith)))
 
 sharing-requires : tie.Need-sharing-requires Inv-loop μ-loop
-sharing-requires c κs = (c .before .before .pre .0, omega arith)
+sharing-requires c κs = (c .before .before .pre .0, omega arith, c .before .before .pre .2)
 
 mul-rows : tie.Need-mul-rows Inv-loop μ-loop
 mul-rows c = omega arith

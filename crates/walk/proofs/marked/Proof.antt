@@ -15,7 +15,7 @@ with-requires : tie.Need-with-requires
 with-requires c κs = search needs
 
 returns : tie.Need-returns
-returns c = mark-one (c .before .before .args .w) (c .before .before .args .y) (c .with .result) (c .before .if1 .taken) (c .with .ensures)
+returns c = let a = c .before .before .args in mark-one (a .seen .now) (a .alone) (a .y) (c .with .result) (c .before .if1 .taken) (c .with .ensures)
 
 mul-with : tie.Need-mul-with
 mul-with c = search needs
@@ -26,11 +26,11 @@ element-copy-out-with c = omega (arith, bound c)
 with-requires-2 : tie.Need-with-requires-2
 with-requires-2 c κs = search needs
 
-mul-r : tie.Need-mul-r
-mul-r c = search needs
+mul-seen : tie.Need-mul-seen
+mul-seen c = search needs
 
-element-write-r : tie.Need-element-write-r
-element-write-r c = omega (arith, bound (c .before .before))
+element-write-seen : tie.Need-element-write-seen
+element-write-seen c = omega (arith, bound (c .before .before))
 
 mul-with-2 : tie.Need-mul-with-2
 mul-with-2 c = search needs
@@ -41,18 +41,18 @@ element-copy-out-with-2 c = omega (arith, bound (c .before .before))
 with-requires-3 : tie.Need-with-requires-3
 with-requires-3 c κs = omega (arith, bound (c .before .before .before))
 
-mul-r-2 : tie.Need-mul-r-2
-mul-r-2 c = search needs
+mul-seen-2 : tie.Need-mul-seen-2
+mul-seen-2 c = search needs
 
-element-write-r-2 : tie.Need-element-write-r-2
-element-write-r-2 c = omega (arith, bound (c .before .before .before .before))
+element-write-seen-2 : tie.Need-element-write-seen-2
+element-write-seen-2 c = omega (arith, bound (c .before .before .before .before))
 
 returns-2 : tie.Need-returns-2
 returns-2 c =
     let m = c .before .before .with2 in
     let e = c .before .before .before .before in
     let s = e .before in
-    mark-two (s .args .w) (s .args .y) (m .result) (c .with3 .result) (s .pre) (e .if1 .left) (m .ensures) (c .with3 .ensures)
+    mark-two (s .args .seen .now) (s .args .alone) (s .args .y) (m .result) (c .with3 .result) (s .pre) (e .if1 .left) (m .ensures) (c .with3 .ensures)
 
 pub marked-spec : {M : Type 1} → statement M
 marked-spec =
@@ -63,11 +63,11 @@ marked-spec =
     mul-with
     element-copy-out-with
     with-requires-2
-    mul-r
-    element-write-r
+    mul-seen
+    element-write-seen
     mul-with-2
     element-copy-out-with-2
     with-requires-3
-    mul-r-2
-    element-write-r-2
+    mul-seen-2
+    element-write-seen-2
     returns-2)

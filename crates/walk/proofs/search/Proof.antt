@@ -11,31 +11,31 @@ use Rattle.walk.proofs.search.Statement.{statement}
 use Rattle.walk.proofs.search.Tie as tie
 
 abbrev Inv-loop : tie.InvT-loop
-Inv-loop follow shares scratch₀ goal start w₀ scratch w = (length scratch ≡ length scratch₀) × Hunted follow shares scratch goal start w
+Inv-loop follow shares scratch₀ goal start seen₀ w₀ scratch seen w = (length scratch ≡ length scratch₀) × Hunted follow shares scratch seen goal start w
 
 abbrev μ-loop : tie.MeasureT-loop
-μ-loop follow shares scratch₀ goal start w₀ scratch w = 4000 * (2048 - w .tail) + (w .tail - w .head)
+μ-loop follow shares scratch₀ goal start seen₀ w₀ scratch seen w = 4000 * (2048 - w .tail) + (w .tail - w .head)
 
 begin-requires : tie.Need-begin-requires Inv-loop μ-loop
 begin-requires c κs = c .before .before .pre
 
 loop-holds : tie.Need-loop-holds Inv-loop μ-loop
-loop-holds c = (refl, c .before .before .begin .ensures .0 (c .before .before .before .before .before .args .follow .now) (c .before .before .before .before .before .args .shares .now))
+loop-holds c = (refl, c .before .before .begin .ensures (c .before .before .before .before .before .args .follow .now) (c .before .before .before .before .before .args .shares .now))
 
 visit-requires : tie.Need-visit-requires Inv-loop μ-loop
-visit-requires c κs = c .before .before .before .before .before .loop .inv .1 .real .walked .long
+visit-requires c κs = c .before .before .before .before .before .before .loop .inv .1 .real .walked .long
 
 loop-less : tie.Need-loop-less Inv-loop μ-loop
 loop-less c =
     let v = c .before .before .visit in
-    let l = c .before .before .before .before .before .before .before .before .loop in
-    visit-less (l .inv .1) (not-true (l .w .found) (c .before .before .before .before .if2 .taken)) (v .ensures .right (l .inv .1 .real)) (c .before .before .before .before .before .before .if1 .taken)
+    let l = c .before .before .before .before .before .before .before .before .before .loop in
+    visit-less (l .inv .1) (not-true (l .w .found) (c .before .before .before .before .before .if2 .taken)) (v .ensures .right (l .inv .1 .real)) (c .before .before .before .before .before .before .before .if1 .taken)
 
 loop-again : tie.Need-loop-again Inv-loop μ-loop
 loop-again c =
     let v = c .before .before .visit in
-    let l = c .before .before .before .before .before .before .before .before .loop in
-    (v .kept .1 .1 .0 ∙ l .inv .0, hunt-next (l .inv .1) (not-true (l .w .found) (c .before .before .before .before .if2 .taken)) (v .ensures .right (l .inv .1 .real)))
+    let l = c .before .before .before .before .before .before .before .before .before .loop in
+    (v .kept .1 .1 .1 .0 ∙ l .inv .0, hunt-next (l .inv .1) (not-true (l .w .found) (c .before .before .before .before .before .if2 .taken)) (v .ensures .right (l .inv .1 .real)))
 
 same-length : tie.Need-same-length Inv-loop μ-loop
 same-length c = c .before .before .before .before .loop .inv .0 ∙ c .before .before .before .before .before .before .before .begin .kept .0
@@ -43,13 +43,13 @@ same-length c = c .before .before .before .before .loop .inv .0 ∙ c .before .b
 returns : tie.Need-returns Inv-loop μ-loop
 returns c =
     let w = c .before .before .before .before .loop .w in
-    record { hunted = c .before .before .before .before .loop .inv .1; over = λ f. absurd (true≢false (sym (not-false (w .found) (c .if2 .left)) ∙ f)) }
+    record { seen = c .before .before .before .before .loop .seen; hunted = c .before .before .before .before .loop .inv .1; over = λ f. absurd (true≢false (sym (not-false (w .found) (c .if2 .left)) ∙ f)) }
 
 same-length-2 : tie.Need-same-length-2 Inv-loop μ-loop
 same-length-2 c = c .before .before .loop .inv .0 ∙ c .before .before .before .before .before .begin .kept .0
 
 returns-2 : tie.Need-returns-2 Inv-loop μ-loop
-returns-2 c = record { hunted = c .before .before .loop .inv .1; over = λ f. omega (arith, c .before .before .loop .inv .1 .real .walked .within, c .if1 .left) }
+returns-2 c = record { seen = c .before .before .loop .seen; hunted = c .before .before .loop .inv .1; over = λ f. omega (arith, c .before .before .loop .inv .1 .real .walked .within, c .if1 .left) }
 
 pub search-spec : {M : Type 1} → statement M
 search-spec =

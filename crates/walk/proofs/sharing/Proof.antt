@@ -1,7 +1,7 @@
 -- The loop's word has, of the numbers passed, those that share a letter with a. Assumes nothing.
 use mathlib.Core.Path.{_≡_, sym, ap, ap₂, _∙_}
 use mathlib.Core.Bool.{Bool, _&&_, _||_}
-use Prim.Native.Nat.{ℕ, _-_, _≤_, zero-le}
+use Prim.Native.Nat.{ℕ, _+_, _-_, _≤_, zero-le}
 use native.Mathlib.Omega.{arith}
 use borrow.Author.Tests.{lt-ltb, le-ltb}
 use lib.Dec.{eqb, ltb}
@@ -14,10 +14,10 @@ use Rattle.walk.proofs.sharing.Statement.{statement}
 use Rattle.walk.proofs.sharing.Tie as tie
 
 abbrev Inv-loop : tie.InvT-loop
-Inv-loop a sets s word₀ b₀ word b = (b ≤ 61) × ((j : ℕ) → hasBit word j ≡ (ltb j b && someLetter (held sets a j)))
+Inv-loop a places sets s word₀ b₀ word b = (b ≤ places + 1) × ((j : ℕ) → hasBit word j ≡ (ltb j b && someLetter (held sets a j)))
 
 abbrev μ-loop : tie.MeasureT-loop
-μ-loop a sets s word₀ b₀ word b = 61 - b
+μ-loop a places sets s word₀ b₀ word b = places + 1 - b
 
 mul-s : tie.Need-mul-s Inv-loop μ-loop
 mul-s c = omega (arith, c .pre .1)

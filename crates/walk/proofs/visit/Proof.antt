@@ -14,20 +14,20 @@ use Rattle.walk.proofs.visit.Statement.{statement}
 use Rattle.walk.proofs.visit.Tie as tie
 
 abbrev Inv-loop : tie.InvT-loop
-Inv-loop follow shares scratch₀ goal tail head₀ alone seen scratch head =
-    (scratch ≡ scratch₀) × (Real follow shares scratch₀ head₀ tail alone seen → Real follow shares scratch head tail alone seen)
+Inv-loop follow shares seen₀ scratch₀ goal tail head₀ alone seen scratch head =
+    (scratch ≡ scratch₀) × (Real follow shares scratch₀ head₀ tail alone seen₀ → Real follow shares scratch head tail alone seen)
 
 abbrev μ-loop : tie.MeasureT-loop
-μ-loop follow shares scratch₀ goal tail head₀ alone seen scratch head = tail - head
+μ-loop follow shares seen₀ scratch₀ goal tail head₀ alone seen scratch head = tail - head
 
 returns : tie.Need-returns Inv-loop μ-loop
-returns c = record { ends = inr (refl, le-refl (c .before .before .before .args .w .tail)); right = λ w. absurd (omega (arith, c .if1 .taken, few-taken w)) }
+returns c = record { ends = inr (refl, le-refl (c .before .before .args .w .tail)); right = λ w. absurd (omega (arith, c .if1 .taken, few-taken w)) }
 
 loop-holds : tie.Need-loop-holds Inv-loop μ-loop
 loop-holds c = (refl, λ w. w)
 
-bound : (c : tie.In-loop Inv-loop μ-loop) → (c .before .before .before .before .before .args .w .tail < 2048) × (4096 ≤ length (c .before .loop .scratch))
-bound c = (c .before .before .if1 .left, omega (arith, c .before .before .before .before .before .pre, ap length (c .before .loop .inv .0)))
+bound : (c : tie.In-loop Inv-loop μ-loop) → (c .before .before .before .before .args .w .tail < 2048) × (4096 ≤ length (c .before .loop .scratch))
+bound c = (c .before .before .if1 .left, omega (arith, c .before .before .before .before .pre, ap length (c .before .loop .inv .0)))
 
 mul-x : tie.Need-mul-x Inv-loop μ-loop
 mul-x c = omega (arith, bound c)
@@ -46,28 +46,28 @@ push-requires c κs =
     let i = c .before .before .before .before .before in
     (bound i .1, bound i .0, c .before .if2 .taken, omega (arith, bound i))
 
-add-t23 : tie.Need-add-t23 Inv-loop μ-loop
-add-t23 c = omega (arith, bound (c .before .before .before .before .before .before .before .before))
+add-t21 : tie.Need-add-t21 Inv-loop μ-loop
+add-t21 c = omega (arith, bound (c .before .before .before .before .before .before .before .before))
 
 is-goal-requires : tie.Need-is-goal-requires Inv-loop μ-loop
 is-goal-requires c κs = c .before .before .before .before .if2 .taken
 
 marked-requires : tie.Need-marked-requires Inv-loop μ-loop
-marked-requires c κs = fresh-node _ _ _ _ _ _ (c .before .before .before .before .before .before .next-new .ensures .some (c .before .before .before .before .before .if2 .taken))
+marked-requires c κs = fresh-node _ _ _ _ _ _ (c .before .before .before .before .before .before .before .next-new .ensures .some (c .before .before .before .before .before .before .if2 .taken))
 
 same-length : tie.Need-same-length Inv-loop μ-loop
-same-length c = c .before .before .before .before .push .kept .0 ∙ ap length (c .before .before .before .before .before .before .before .before .before .before .before .loop .inv .0)
+same-length c = c .before .before .before .before .before .push .kept .0 ∙ ap length (c .before .before .before .before .before .before .before .before .before .before .before .before .loop .inv .0)
 
 returns-2 : tie.Need-returns-2 Inv-loop μ-loop
 returns-2 c =
-    let p = c .before .before .before .before .push in
-    let t = c .before .before .before .before .before .before in
+    let p = c .before .before .before .before .before .push in
+    let t = c .before .before .before .before .before .before .before in
     let n = t .before .next-new in
     let i = t .before .before .before .before in
     let l = i .before .loop in
     record {
-      ends = inl (c .marked .ensures .tail);
-      right = λ w. took (l .inv .1 w) (l .inv .0) (i .loop-test .taken) (n .ensures .some (t .if2 .taken)) (p .ensures) (c .before .is-goal .ensures) (c .marked .ensures);
+      ends = inl refl;
+      right = λ w. took (l .inv .1 w) (l .inv .0) (i .loop-test .taken) (n .ensures .some (t .if2 .taken)) (p .ensures) (c .before .before .is-goal .ensures) (c .marked .ensures);
     }
 
 add-head : tie.Need-add-head Inv-loop μ-loop
@@ -107,7 +107,7 @@ visit-spec =
     cast-x
     next-new-requires
     push-requires
-    add-t23
+    add-t21
     is-goal-requires
     marked-requires
     same-length

@@ -1,0 +1,5 @@
+pub mod Putting
+pub mod Fields
+pub mod Cutting
+pub mod Vetting
+pub mod Written

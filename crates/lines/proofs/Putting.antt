@@ -1,0 +1,41 @@
+-- Texts put into a slice one after the other are their joined text put there. Assumes nothing.
+use mathlib.Core.Path.{_≡_, refl, sym, ap, _∙_, subst}
+use mathlib.Core.List.{List, [], _∷_, _++_}
+use Prim.Native.Nat.{ℕ, suc, _+_, _≤_, _<_}
+use native.Mathlib.Nat.{add-zero}
+use native.Mathlib.Numerals.{add-one}
+use native.Mathlib.Omega.{arith}
+use lib.ListN.{length, take, getD, set, length-append}
+use lib.Seq.{sets, length-sets, take-suc, take-all}
+use Rattle.lines.specs.Lines.{Puts}
+
+pub sets-append : (s t l : List ℕ) (i : ℕ) → sets (sets l i s) (i + length s) t ≡ sets l i (s ++ t)
+sets-append [] t l i = ap (λ (k : ℕ). sets l k t) (add-zero i)
+sets-append (x ∷ s) t l i =
+    let e : i + suc (length s) ≡ suc i + length s = omega arith in
+    ap (λ (k : ℕ). sets (sets l i (x ∷ s)) k t) e ∙ sets-append s t (sets l i (x ∷ [])) (suc i)
+
+pub puts-then : {s t old mid new : List ℕ} {a m r : ℕ} → Puts s old a mid m → Puts t mid m new r → Puts (s ++ t) old a new r
+puts-then {s} {t} {old} {mid} {new} {a} {m} {r} p q = record {
+  bytes = q .bytes ∙ ap (λ (l : List ℕ). sets l m t) (p .bytes) ∙ ap (λ (k : ℕ). sets (sets old a s) k t) (p .end) ∙ sets-append s t old a;
+  end = simp length-append (omega arith);
+}
+
+pub puts-kept : {s old new : List ℕ} {a r : ℕ} → Puts s old a new r → length new ≡ length old
+puts-kept {s} {old} {new} {a} p = ap length (p .bytes) ∙ length-sets old a s
+
+-- ---- a text put byte by byte
+
+pub puts-byte : (l : List ℕ) (a b : ℕ) → Puts (b ∷ []) l a (set l a b) (a + 1)
+puts-byte l a b = record { bytes = refl; end = refl }
+
+pub puts-more : (text old mid : List ℕ) (a i : ℕ) → i < length text → Puts (take i text) old a mid (a + i)
+    → Puts (take (i + 1) text) old a (set mid (a + i) (getD text i 0)) (a + (i + 1))
+puts-more text old mid a i h p =
+    let e : take (i + 1) text ≡ take i text ++ (getD text i 0 ∷ []) = ap (λ (k : ℕ). take k text) (add-one i) ∙ take-suc text i 0 h in
+    let n : a + i + 1 ≡ a + (i + 1) = omega arith in
+    subst (λ (t : List ℕ). Puts t old a (set mid (a + i) (getD text i 0)) (a + (i + 1))) (sym e)
+    (subst (λ (r : ℕ). Puts (take i text ++ (getD text i 0 ∷ [])) old a (set mid (a + i) (getD text i 0)) r) n (puts-then p (puts-byte mid (a + i) (getD text i 0))))
+
+pub puts-all : (text old new : List ℕ) (a i r : ℕ) → length text ≤ i → Puts (take i text) old a new r → Puts text old a new r
+puts-all text old new a i r h p = subst (λ (t : List ℕ). Puts t old a new r) (take-all i text h) p

@@ -1,0 +1,63 @@
+-- The line of a pattern by what vetting it gave. Assumes nothing.
+use mathlib.Core.Path.{_≡_, sym, ap, _∙_, subst}
+use mathlib.Core.List.{List}
+use Prim.Native.Nat.{ℕ, zero, suc, _≤_}
+use native.Mathlib.Omega.{arith}
+use lib.Dec.{eqb}
+use lib.ListN.{length}
+use borrow.Author.Tests.{eq-eqb, ne-eqb}
+use Rattle.basics.specs.Bytes.{codes}
+use Rattle.basics.proofs.Tests.{if-yes, if-no}
+use Rattle.pattern.specs.Grammar.{patternPart}
+use Rattle.pattern.specs.Positions.{places, patternGraph}
+use Rattle.pattern.specs.Refusals.{patternFault}
+use Rattle.verdict.specs.Verdict.{verdict}
+use Rattle.marking.specs.Vetting.{vetFault, VetBy, VetSays}
+use Rattle.marking.specs.declared.Vetted.{Vetted}
+use Rattle.marking.proofs.Vetting.{by-pattern}
+use Rattle.lines.specs.Lines.{word, fields, lineOf, Puts}
+
+-- the refusal is the number by which vetting goes, and where there is none the verdict and p are the pattern's
+by-fault : (k : ℕ) (s e e′ w w′ : List ℕ) (r : Vetted) → VetBy k s e e′ w w′ r
+    → (r .refusal ≡ k) × (k ≡ 0 → (r .verdict ≡ verdict (patternGraph s)) × (r .places ≡ places (patternPart s)))
+by-fault zero s e e′ w w′ r h = (h .refusal, λ z. (h .vets .verdict-is, h .places))
+by-fault (suc k) s e e′ w w′ r h = (ap (λ (v : Vetted). v .refusal) (h .result), λ z. absurd (omega arith))
+
+-- `vet_pattern` gave r of the pattern s, with evidence and scratch that are large enough; the line has the number n
+module _ (s e e′ w w′ : List ℕ) (r : Vetted) (says : VetSays s e e′ w w′ r) (long : 4096 ≤ length e) (wide : 8192 ≤ length w) (n : ℕ) where
+  abbrev faultOf : ℕ
+  faultOf = vetFault s (length e) (length w)
+
+  fault : faultOf ≡ patternFault s
+  fault = by-pattern s (length e) (length w) long wide
+
+  -- "or `refused` and the number"
+  refusal : r .refusal ≡ patternFault s
+  refusal = by-fault faultOf s e e′ w w′ r says .0 ∙ fault
+
+  -- "`single`, `steady` or `runaway` and p"
+  judgement : r .refusal ≡ 0 → (r .verdict ≡ verdict (patternGraph s)) × (r .places ≡ places (patternPart s))
+  judgement z = by-fault faultOf s e e′ w w′ r says .1 (sym (by-fault faultOf s e e′ w w′ r says .0) ∙ z)
+
+  -- the two lines that a pattern can have
+  abbrev accepted : List ℕ
+  accepted = fields n (word (verdict (patternGraph s))) (places (patternPart s))
+
+  abbrev refused : List ℕ
+  refused = fields n (codes "refused") (patternFault s)
+
+  -- what is written is the pattern's line
+  pub line-refused : (r .refusal ≡ 0 → ⊥) → fields n (codes "refused") (r .refusal) ≡ lineOf n s
+  unfolding lineOf
+  line-refused d = ap (fields n (codes "refused")) refusal ∙ sym (if-no accepted refused (eqb (patternFault s) 0) (ne-eqb (patternFault s) 0 (λ z. d (refusal ∙ z))))
+
+  pub line-verdict : r .refusal ≡ 0 → (v : ℕ) → r .verdict ≡ v → fields n (word v) (r .places) ≡ lineOf n s
+  unfolding lineOf
+  line-verdict z v g =
+      ap (λ (u : ℕ). fields n (word u) (r .places)) (sym g ∙ judgement z .0)
+      ∙ ap (fields n (word (verdict (patternGraph s)))) (judgement z .1)
+      ∙ sym (if-yes accepted refused (eqb (patternFault s) 0) (eq-eqb (patternFault s) 0 (sym refusal ∙ z)))
+
+-- what is put, by another name
+pub line-put : {text line old new : List ℕ} {a r : ℕ} → Puts text old a new r → text ≡ line → Puts line old a new r
+line-put {text} {line} {old} {new} {a} {r} p e = subst (λ (t : List ℕ). Puts t old a new r) e p

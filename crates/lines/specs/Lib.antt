@@ -1,0 +1,2 @@
+-- What the program `vet` writes.
+pub mod Lines
