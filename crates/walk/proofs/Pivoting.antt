@@ -16,8 +16,8 @@ use Rattle.verdict.proofs.Pivots.{pivot-none, pivot-is-first}
 use Rattle.walk.specs.declared.Goal.{Goal}
 use Rattle.walk.specs.declared.Walk.{Walk}
 use Rattle.walk.specs.Tables.{Rows, Shares}
-use Rattle.walk.specs.Walks.{Searched}
-use Rattle.walk.proofs.Searching.{found-parts}
+use Rattle.walk.specs.Walks.{isGoal, Hunted, Searched}
+use Rattle.walk.proofs.Searching.{goal-low, found-parts}
 
 -- both paths at q
 abbrev pub onlyAt : ℕ → Goal
@@ -25,6 +25,9 @@ onlyAt m = record { mask = m; parted = true }
 
 pub equal-swap : (a b : ℕ) → eqb a b ≡ eqb b a
 equal-swap a b = same-test (eqb a b) (eqb b a) (λ e. eq-eqb b a (sym (eqb-true a b e))) (λ e. eq-eqb a b (sym (eqb-true b a e)))
+
+pub start-no-goal : (m q : ℕ) → q ≤ 60 → isGoal (onlyAt m) q ≡ false
+start-no-goal m q l = goal-low (onlyAt m) q (omega arith)
 
 pub pivot-found : {g : Graph} {F S s : List ℕ} {m q : ℕ} {w : Walk} → Rows g F → Shares g S → ((j : ℕ) → hasBit m j ≡ eqb q j) → q ≤ g .places → Searched F S s (onlyAt m) q w → isPivot g q ≡ w .found
 pivot-found {g} {m = m} {q = q} rows sh only l over =
@@ -49,8 +52,18 @@ none-yet g rows sh e k i l = absurd (let p = position-of g k i in omega arith)
 pub none-first : {F S : List ℕ} {places q : ℕ} → places < q → NoneBelow F S places q → (g : Graph) → Rows g F → Shares g S → g .places ≡ places → firstPivot g ≡ 0
 none-first l none g rows sh e = pivot-none g (λ k i. none g rows sh e k i (let p = position-of g k i in omega arith))
 
+-- ---- the two loops
+
+-- a search from q under way, with no goal yet
+pub record Looking (F S s₀ s seen : List ℕ) (goal : Goal) (q at₀ at : ℕ) (w : Walk) : Type 0 where
+  pub size : length s ≡ length s₀
+  pub still : at ≡ at₀
+  pub hunted : Hunted F S s seen goal q w
+  pub none : w .found ≡ false
+
 -- the positions below q are passed, and none is a pivot
-pub record Passing (F S s₀ s : List ℕ) (places q : ℕ) : Type 0 where
+pub record Passing (F S s₀ s : List ℕ) (places q at : ℕ) : Type 0 where
   pub size : length s ≡ length s₀
   pub low : 1 ≤ q
+  pub still : at ≡ 0
   pub none : NoneBelow F S places q

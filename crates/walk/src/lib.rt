@@ -177,7 +177,7 @@ fn push(scratch: &mut [u16], tail: usize, y: usize, from: usize)
 // A search that has taken up its first node, and no pair.
 fn begin(scratch: &mut [u16], goal: Goal, start: usize) -> Walk
     requires { ⌜ (4096 ≤ length (now scratch)) × (start ≤ 60) ⌝ }
-    ensures { λ r. ⌜ ((F S : List ℕ) → Hunted F S (now (scratch .exit)) (replicate 61 0) goal start r) ⌝ }
+    ensures { λ r. ⌜ ((F S : List ℕ) → Hunted F S (now (scratch .exit)) (replicate 61 0) goal start r) × (r .found ≡ isGoal goal start) ⌝ }
 {
     push(&mut *scratch, 0, start, 0);
     Walk {
@@ -264,18 +264,24 @@ fn first_pivot<'a>(
     ensures { λ r. ⌜ ((g : Graph) → Rows g (now (follow .entry)) → Shares g (now (shares .entry)) → g .places ≡ places → firstPivot g ≡ r) ⌝ }
 {
     let mut q: usize = 1;
-    while q <= places {
+    let mut at: usize = 0;
+    'pivots: while q <= places {
         let goal = Goal {
             mask: bits::only(q),
             parted: true,
         };
-        let w = search(follow, shares, &mut *scratch, goal, q);
-        if w.found {
-            return q;
+        let mut seen = [0u64; 61];
+        let mut w = begin(&mut *scratch, goal, q);
+        while w.head < w.tail {
+            w = visit(follow, shares, &mut seen, &mut *scratch, goal, w);
+            if w.found {
+                at = q;
+                break 'pivots;
+            }
         }
         q += 1;
     }
-    0
+    at
 }
 
 // Where the two paths of a node are.
@@ -387,30 +393,23 @@ fn with_if(mask: u64, i: usize, yes: bool) -> u64
     mask
 }
 
-// The numbers up to `places` whose sets share a letter with that of a.
-fn sharing(sets: [LetterSet; 61], a: usize, places: usize) -> u64
-    requires { ⌜ Lettered sets × (a ≤ 60) × (places ≤ 60) ⌝ }
-    ensures { λ r. ⌜ ((b : ℕ) → b ≤ places → hasBit r b ≡ someLetter (held sets a b)) ⌝ }
-{
-    let s = sets[a];
-    let mut word: u64 = 0;
-    let mut b: usize = 0;
-    while b <= places {
-        let t = sets[b];
-        word = with_if(word, b, share(s, t));
-        b += 1;
-    }
-    word
-}
-
-// The same for every number up to `places`, in rows.
+// The numbers up to `places` whose sets share a letter with that of a, for every such a, in rows. The sets are read here and not
+// in a function of one row, which would copy them all.
 fn fill(sets: [LetterSet; 61], rows: &mut [u64; 61], places: usize)
     requires { ⌜ Lettered sets × (length (now rows) ≡ 61) × (places ≤ 60) ⌝ }
     ensures { λ _. ⌜ ((a b : ℕ) → a ≤ places → b ≤ places → hasBit (getD (now (rows .exit)) a 0) b ≡ someLetter (held sets a b)) × (length (now (rows .exit)) ≡ 61) ⌝ }
 {
     let mut a: usize = 0;
     while a <= places {
-        rows[a] = sharing(sets, a, places);
+        let s = sets[a];
+        let mut word: u64 = 0;
+        let mut b: usize = 0;
+        while b <= places {
+            let t = sets[b];
+            word = with_if(word, b, share(s, t));
+            b += 1;
+        }
+        rows[a] = word;
         a += 1;
     }
 }

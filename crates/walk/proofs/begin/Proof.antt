@@ -17,11 +17,11 @@ same-length : tie.Need-same-length
 same-length c = search needs
 
 returns : tie.Need-returns
-returns c F S =
+returns c =
     let g = c .before .is-goal in
     let p = c .before .before .before .before .push in
     let s = c .before .before .before .before .before .before .before in
-    hunt-begin (s .args .scratch .now) (s .args .goal) (s .args .start) (c .only .result) (g .result) (s .pre .0) (s .pre .1) (c .only .ensures) (g .ensures) F S (p .last .0) (p .ensures)
+    (λ F S. hunt-begin (s .args .scratch .now) (s .args .goal) (s .args .start) (c .only .result) (g .result) (s .pre .0) (s .pre .1) (c .only .ensures) (g .ensures) F S (p .last .0) (p .ensures), g .ensures)
 
 pub begin-spec : {M : Type 1} → statement M
 begin-spec = tie.close (tie.spec push-requires is-goal-requires only-requires same-length returns)

@@ -1,60 +1,109 @@
--- The loop has passed positions that are no pivots. Assumes nothing.
-use mathlib.Core.Path.{refl, _∙_}
-use Prim.Native.Nat.{_+_, _-_, _≤_}
+-- The outer loop has passed positions that are no pivots; the inner one is a search from q for both paths back at q.
+-- Assumes nothing.
+use mathlib.Core.Path.{refl, sym, _∙_}
+use mathlib.Core.Bool.{true≢false}
+use Prim.Native.Nat.{_+_, _-_, _*_}
 use native.Mathlib.Nat.{le-refl}
 use native.Mathlib.Omega.{arith}
-use Rattle.walk.proofs.Pivoting.{none-yet, none-more, pivot-first, none-first, Passing}
+use Rattle.walk.proofs.Walking.{hunt-next, visit-less}
+use Rattle.walk.proofs.Pivoting.{start-no-goal, none-yet, none-more, pivot-first, none-first, Looking, Passing}
 use Rattle.walk.proofs.first_pivot.Statement.{statement}
 use Rattle.walk.proofs.first_pivot.Tie as tie
 
 abbrev Inv-loop : tie.InvT-loop
-Inv-loop follow shares scratch₀ places q₀ scratch q = Passing follow shares scratch₀ scratch places q
+Inv-loop follow shares scratch₀ places q at₀ goal seen₀ w₀ scratch at seen w = Looking follow shares scratch₀ scratch seen goal q at₀ at w
 
 abbrev μ-loop : tie.MeasureT-loop
-μ-loop follow shares scratch₀ places q₀ scratch q = places + 1 - q
+μ-loop follow shares scratch₀ places q at₀ goal seen₀ w₀ scratch at seen w = 4000 * (2048 - w .tail) + (w .tail - w .head)
 
-loop-holds : tie.Need-loop-holds Inv-loop μ-loop
-loop-holds c = record { size = refl; low = le-refl 1; none = none-yet }
+abbrev Inv-pivots : tie.InvT-pivots
+Inv-pivots follow shares scratch₀ places q₀ at₀ scratch q at = Passing follow shares scratch₀ scratch places q at
 
--- q is a position
-placed : (c : tie.In-loop Inv-loop μ-loop) → c .before .loop .q ≤ 60
-placed c = omega (arith, c .before .before .before .pre .1, c .loop-test .taken)
+abbrev μ-pivots : tie.MeasureT-pivots
+μ-pivots follow shares scratch₀ places q₀ at₀ scratch q at = places + 1 - q
 
-only-requires : tie.Need-only-requires Inv-loop μ-loop
-only-requires c κs = omega (arith, placed c)
+pivots-holds : tie.Need-pivots-holds Inv-loop μ-loop Inv-pivots μ-pivots
+pivots-holds c = record { size = refl; low = le-refl 1; still = refl; none = none-yet }
 
-search-requires : tie.Need-search-requires Inv-loop μ-loop
-search-requires c κs =
+only-requires : tie.Need-only-requires Inv-loop μ-loop Inv-pivots μ-pivots
+only-requires c κs = omega (arith, c .before .before .before .pre .1, c .pivots-test .taken)
+
+begin-requires : tie.Need-begin-requires Inv-loop μ-loop Inv-pivots μ-pivots
+begin-requires c κs =
     let i = c .before .before in
-    (omega (arith, i .before .before .before .pre .0, i .before .loop .inv .size), placed i)
+    let s = i .before .before .before in
+    (omega (arith, s .pre .0, i .before .pivots .inv .size), omega (arith, s .pre .1, i .pivots-test .taken))
 
-same-length : tie.Need-same-length Inv-loop μ-loop
-same-length c = c .before .before .before .search .kept .1 .1 .0 ∙ c .before .before .before .before .before .before .before .loop .inv .size
+loop-holds : tie.Need-loop-holds Inv-loop μ-loop Inv-pivots μ-pivots
+loop-holds c =
+    let b = c .before .before .begin in
+    let o = c .before .before .before .before in
+    let i = o .before in
+    let s = i .before .before .before in
+    record {
+      size = refl;
+      still = refl;
+      hunted = b .ensures .0 (s .args .follow .now) (s .args .shares .now);
+      none = b .ensures .1 ∙ start-no-goal (o .only .result) (i .before .pivots .q) (omega (arith, s .pre .1, i .pivots-test .taken));
+    }
 
-returns : tie.Need-returns Inv-loop μ-loop
-returns c =
-    let i = c .before .before .before .before .before .before in
-    let p = i .before .loop .inv in
-    pivot-first (p .low) (i .loop-test .taken) (c .before .before .before .before .before .only .ensures) (p .none) (c .before .before .before .search .ensures) (c .if1 .taken)
+visit-requires : tie.Need-visit-requires Inv-loop μ-loop Inv-pivots μ-pivots
+visit-requires c κs = c .before .before .before .before .loop .inv .hunted .real .walked .long
 
-add-q : tie.Need-add-q Inv-loop μ-loop
-add-q c = omega (arith, placed (c .before .before .before .before .before .before))
+loop-less : tie.Need-loop-less Inv-loop μ-loop Inv-pivots μ-pivots
+loop-less c =
+    let v = c .before .before .before .visit in
+    let l = c .before .before .before .before .before .before .before .before .loop in
+    visit-less (l .inv .hunted) (l .inv .none) (v .ensures .right (l .inv .hunted .real)) (c .before .before .before .before .before .before .if1 .taken)
 
-loop-less : tie.Need-loop-less Inv-loop μ-loop
-loop-less c = omega (arith, c .before .before .before .before .before .before .loop-test .taken)
-
-loop-again : tie.Need-loop-again Inv-loop μ-loop
+loop-again : tie.Need-loop-again Inv-loop μ-loop Inv-pivots μ-pivots
 loop-again c =
-    let i = c .before .before .before .before .before .before in
-    let p = i .before .loop .inv in
-    let r = c .before .before .before .search in
-    record { size = r .kept .1 .1 .0 ∙ p .size; low = omega (arith, p .low); none = none-more (p .low) (i .loop-test .taken) (c .before .before .before .before .before .only .ensures) (p .none) (r .ensures) (c .if1 .left) }
+    let v = c .before .before .before .visit in
+    let l = c .before .before .before .before .before .before .before .before .loop in
+    record { size = v .kept .1 .1 .1 .0 ∙ l .inv .size; still = l .inv .still; hunted = hunt-next (l .inv .hunted) (l .inv .none) (v .ensures .right (l .inv .hunted .real)); none = c .if2 .left }
 
-same-length-2 : tie.Need-same-length-2 Inv-loop μ-loop
-same-length-2 c = c .before .loop .inv .size
+add-q : tie.Need-add-q Inv-loop μ-loop Inv-pivots μ-pivots
+add-q c = let i = c .before .before .before .before .before .before .before .before in omega (arith, i .before .before .before .pre .1, i .pivots-test .taken)
 
-returns-2 : tie.Need-returns-2 Inv-loop μ-loop
-returns-2 c = none-first (omega (arith, c .loop-test .left)) (c .before .loop .inv .none)
+pivots-less : tie.Need-pivots-less Inv-loop μ-loop Inv-pivots μ-pivots
+pivots-less c = omega (arith, c .before .before .before .before .before .before .before .before .pivots-test .taken)
+
+pivots-again : tie.Need-pivots-again Inv-loop μ-loop Inv-pivots μ-pivots
+pivots-again c =
+    let l = c .before .before .loop in
+    let o = c .before .before .before .before .before .before .before in
+    let p = o .before .before .pivots in
+    record {
+      size = l .inv .size ∙ c .before .before .before .before .before .begin .kept .0 ∙ p .inv .size;
+      low = omega (arith, p .inv .low);
+      still = l .inv .still ∙ p .inv .still;
+      none = none-more (p .inv .low) (o .before .pivots-test .taken) (o .only .ensures) (p .inv .none)
+          (record { seen = l .seen; hunted = l .inv .hunted; over = λ f. omega (arith, l .inv .hunted .real .walked .within, c .if1 .left) }) (l .inv .none);
+    }
+
+same-length : tie.Need-same-length Inv-loop μ-loop Inv-pivots μ-pivots
+same-length c = c .before .pivots .inv .size
+
+returns : tie.Need-returns Inv-loop μ-loop Inv-pivots μ-pivots
+returns c g rows sh e =
+    let p = c .before .pivots in
+    none-first (omega (arith, c .pivots-test .left)) (p .inv .none) g rows sh e ∙ sym (p .inv .still)
+
+same-length-2 : tie.Need-same-length-2 Inv-loop μ-loop Inv-pivots μ-pivots
+same-length-2 c =
+    let v = c .before .before .before .visit in
+    let l = c .before .before .before .before .before .before .before .before .loop in
+    let b = c .before .before .before .before .before .before .before .before .before .before .before in
+    v .kept .1 .1 .1 .0 ∙ l .inv .size ∙ b .begin .kept .0 ∙ b .before .before .before .before .pivots .inv .size
+
+returns-2 : tie.Need-returns-2 Inv-loop μ-loop Inv-pivots μ-pivots
+returns-2 c =
+    let v = c .before .before .before .visit in
+    let l = c .before .before .before .before .before .before .before .before .loop in
+    let o = c .before .before .before .before .before .before .before .before .before .before .before .before .before in
+    let p = o .before .before .pivots in
+    pivot-first (p .inv .low) (o .before .pivots-test .taken) (o .only .ensures) (p .inv .none)
+    (record { seen = v .last .1 .1 .0; hunted = hunt-next (l .inv .hunted) (l .inv .none) (v .ensures .right (l .inv .hunted .real)); over = λ f. absurd (true≢false (sym (c .if2 .taken) ∙ f)) }) (c .if2 .taken)
 
 pub first-pivot-spec : {M : Type 1} → statement M
 first-pivot-spec =
@@ -62,13 +111,19 @@ first-pivot-spec =
     (tie.spec
     Inv-loop
     μ-loop
-    loop-holds
+    Inv-pivots
+    μ-pivots
+    pivots-holds
     only-requires
-    search-requires
-    same-length
-    returns
-    add-q
+    begin-requires
+    loop-holds
+    visit-requires
     loop-less
     loop-again
+    add-q
+    pivots-less
+    pivots-again
+    same-length
+    returns
     same-length-2
     returns-2)

@@ -20,7 +20,7 @@ begin-requires : tie.Need-begin-requires Inv-loop μ-loop
 begin-requires c κs = c .before .before .pre
 
 loop-holds : tie.Need-loop-holds Inv-loop μ-loop
-loop-holds c = (refl, c .before .before .begin .ensures (c .before .before .before .before .before .args .follow .now) (c .before .before .before .before .before .args .shares .now))
+loop-holds c = (refl, c .before .before .begin .ensures .0 (c .before .before .before .before .before .args .follow .now) (c .before .before .before .before .before .args .shares .now))
 
 visit-requires : tie.Need-visit-requires Inv-loop μ-loop
 visit-requires c κs = c .before .before .before .before .before .before .loop .inv .1 .real .walked .long
