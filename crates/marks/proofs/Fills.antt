@@ -1,21 +1,22 @@
 -- The loop of a step: entry after entry of the new row is filled, from a row that the stores do not touch. Assumes nothing.
 use mathlib.Core.Path.{_≡_, refl, sym, ap, _∙_, subst}
 use mathlib.Core.Logic.{⊎-elim}
-use mathlib.Core.Bool.{Bool, false, _&&_, _||_, or-assoc, or-false, false≢true}
+use mathlib.Core.Bool.{Bool, true, false, _&&_, _||_, or-assoc, or-false, false≢true}
 use mathlib.Core.List.{List}
 use Prim.Native.Nat.{ℕ, _+_, _≤_, _<_, _%_, _^_, min}
 use native.Mathlib.Omega.{arith}
 use lib.Dec.{eqb, ltb}
 use lib.ListN.{length, getD, set, length-set}
 use lib.Seq.{getD-set-same, getD-set-other}
-use borrow.Author.Tests.{eqb-true}
+use borrow.Author.Tests.{eqb-true, lt-ltb, le-ltb}
+use Rattle.basics.specs.Choice.{if_then_else_}
 use Rattle.basics.specs.Folds.{anyIf, larger, Less}
-use Rattle.basics.proofs.Tests.{and-parts, or-cases, by-equal}
+use Rattle.basics.proofs.Tests.{and-parts, or-cases, by-equal, if-yes, if-no}
 use Rattle.basics.proofs.Folds.{fold-same}
 use Rattle.bits.specs.Bits.{hasBit, Least}
 use Rattle.bits.proofs.Laws.{has-none, has-high, lt-of-high, member-below}
 use Rattle.bits.proofs.Walk.{any-turn, walk-end, kept}
-use Rattle.marks.specs.Rows.{cell, arriving, newCount, newCredit, Outside, Filled, Stepped}
+use Rattle.marks.specs.Rows.{cell, stored, arriving, newCount, newCredit, Outside, Filled, Stepped}
 
 pub fill-start : (to : ℕ) (v : ℕ → ℕ) (xs : List ℕ) → Filled to 0 v xs xs
 fill-start to v xs = record { size = refl; made = λ i e. absurd (false≢true (sym (has-none i) ∙ e)); kept = λ j o. refl }
@@ -33,6 +34,19 @@ fill-on to out out′ t x v s xs ys h e low room same = record {
       ∙ h .made i (⊎-elim (λ m. m) (λ m. absurd (d (eqb-true t i (and-parts s (eqb t i) m .1)))) (or-cases (hasBit out i) (s && eqb t i) (sym (e i) ∙ k))));
   kept = λ j o. getD-set-other ys (to + t) j x 0 (o t low) ∙ h .kept j o;
 }
+
+-- the same where nothing is stored unless it is one
+pub fill-if : (to out out′ t x : ℕ) (v : ℕ → ℕ) (s : Bool) (xs ys : List ℕ) → Filled to out v xs ys → ((j : ℕ) → hasBit out′ j ≡ (hasBit out j || (s && eqb t j)))
+    → t < 61 → to + 61 ≤ length xs → x ≡ v t → Filled to out′ v xs (if s then set ys (to + t) x else ys)
+fill-if to out out′ t x v true xs ys h e low room same = fill-on to out out′ t x v true xs ys h e low room same
+fill-if to out out′ t x v false xs ys h e low room same = record { size = h .size; made = λ i k. h .made i (sym (or-false (hasBit out i)) ∙ sym (e i) ∙ k); kept = h .kept }
+
+-- what is stored, by whether the set has a member
+pub stored-none : (members at x : ℕ) (xs : List ℕ) → members ≡ 0 → xs ≡ stored members xs at x
+stored-none members at x xs e = sym (if-no (set xs at x) xs (ltb 0 members) (le-ltb 0 members (omega arith)))
+
+pub stored-some : (members at x y : ℕ) (xs : List ℕ) → (members ≡ 0 → ⊥) → x ≡ y → set xs at x ≡ stored members xs at y
+stored-some members at x y xs d e = ap (set xs at) e ∙ sym (if-yes (set xs at y) xs (ltb 0 members) (lt-ltb 0 members (omega (arith, d))))
 
 -- ---- the positions in `left` wait, and `out` has those of the others that can be reached
 
@@ -59,7 +73,8 @@ module _ (before credits : List ℕ) (from to active holds : ℕ) (counts₀ bes
   module _ (counts best : List ℕ) (left out : ℕ) (h : Filling before credits from to active holds counts₀ best₀ counts best left out) where
     pub filling-on : ((i : ℕ) → i < 61 → Outside to (from + i)) → to + 61 ≤ length counts₀ → to + 61 ≤ length best₀ → (t r out′ : ℕ) → Least left t → Less (hasBit left) t (hasBit r)
         → r < left → out′ < 2 ^ 64 → ((j : ℕ) → hasBit out′ j ≡ (hasBit out j || (reached before active t && eqb t j))) → (counts′ best′ : List ℕ)
-        → counts′ ≡ set counts (to + t) (newCount before active from counts t) → best′ ≡ set best (to + t) (newCredit before credits active from best t)
+        → counts′ ≡ stored (arriving before active t) counts (to + t) (newCount before active from counts t)
+        → best′ ≡ stored (arriving before active t) best (to + t) (newCredit before credits active from best t)
         → Filling before credits from to active holds counts₀ best₀ counts′ best′ r out′
     filling-on apart roomC roomB t r out′ l less falls fits e counts′ best′ ec eb =
         let here = member-below 61 left t (h .small) (l .here) in
@@ -71,10 +86,10 @@ module _ (before credits : List ℕ) (from to active holds : ℕ) (counts₀ bes
               ap (λ (b : Bool). b || anyIf (hasBit r) (to-be j) 61) (e j) ∙ or-assoc (hasBit out j) (to-be j t) (anyIf (hasBit r) (to-be j) 61)
               ∙ ap (λ (b : Bool). hasBit out j || b) (sym (any-turn 61 left t r (h .small) l less (to-be j))) ∙ h .states j;
           counted = subst (Filled to out′ (newCount before active from counts₀) counts₀) (sym ec)
-              (fill-on to out out′ t (newCount before active from counts t) (newCount before active from counts₀) (reached before active t) counts₀ counts (h .counted) e here roomC
+              (fill-if to out out′ t (newCount before active from counts t) (newCount before active from counts₀) (reached before active t) counts₀ counts (h .counted) e here roomC
               (ap (λ (x : ℕ). min x (2 ^ 63)) (fold-same 0 _+_ (hasBit m) (hasBit m) (cell counts from) (cell counts₀ from) 61 (λ i k. refl) (λ i k y. h .counted .kept (from + i) (apart i k)))));
           marked = subst (Filled to out′ (newCredit before credits active from best₀) best₀) (sym eb)
-              (fill-on to out out′ t (newCredit before credits active from best t) (newCredit before credits active from best₀) (reached before active t) best₀ best (h .marked) e here roomB
+              (fill-if to out out′ t (newCredit before credits active from best t) (newCredit before credits active from best₀) (reached before active t) best₀ best (h .marked) e here roomB
               (ap (λ (x : ℕ). (x + getD credits t 0) % 2 ^ 32) (fold-same 0 larger (hasBit m) (hasBit m) (cell best from) (cell best₀ from) 61 (λ i k. refl) (λ i k y. h .marked .kept (from + i) (apart i k)))));
         }
       where

@@ -7,7 +7,8 @@ use mathlib.Core.List.{List, _++_}
 use Prim.Native.Nat.{ℕ, _+_, _*_, _%_, _^_, _≤_, _<_, min}
 use lib.Bits.{bitAnd}
 use lib.Dec.{ltb}
-use lib.ListN.{length, getD}
+use lib.ListN.{length, getD, set}
+use Rattle.basics.specs.Choice.{if_then_else_}
 use Rattle.basics.specs.Folds.{sumIf, mostIf}
 use Rattle.bits.specs.Bits.{hasBit}
 use Rattle.graph.specs.Graph.{Graph}
@@ -42,6 +43,10 @@ newCount before active from counts i = countOf (arriving before active i) (cell 
 
 abbrev pub newCredit : List ℕ → List ℕ → ℕ → ℕ → List ℕ → ℕ → ℕ
 newCredit before credits active from best i = (mostOf (arriving before active i) (cell best from) + getD credits i 0) % 2 ^ 32
+
+-- x put at `at`, where the set has a member
+abbrev pub stored : ℕ → List ℕ → ℕ → ℕ → List ℕ
+stored members xs at x = if ltb 0 members then set xs at x else xs
 
 -- j lies outside the row that begins at `to`
 abbrev pub Outside : ℕ → ℕ → Type 0

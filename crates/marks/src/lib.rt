@@ -12,7 +12,7 @@ ghost use Rattle.bits.specs.Bits.{hasBit};
 ghost use Rattle.letters.specs.LetterSet.{hasLetter};
 ghost use Rattle.graph.specs.Graph.{Bounded};
 ghost use Rattle.graph.specs.Built.{setAt, shows};
-ghost use Rattle.marks.specs.Rows.{cell, countOf, mostOf, Outside, Stepped, Answered};
+ghost use Rattle.marks.specs.Rows.{cell, stored, countOf, mostOf, Outside, Stepped, Answered};
 ghost use Rattle.marks.specs.Tables.{Columns, Entered, tables};
 
 // The number of readings, 2^63 where there are more, and the most credit that one earns, 0 where there is none.
@@ -84,13 +84,16 @@ fn gather(counts: &[u64], best: &[u32], from: usize, members: u64) -> Marked
     }
 }
 
-// The entry at `at`, from the members of a set in the row that begins at `from`, with a credit more. Credits wrap: those of a row
-// that was made here are far too small for it.
+// The entry at `at`, from the members of a set in the row that begins at `from`, with a credit more; where there is no member
+// nothing is stored. Credits wrap: those of a row that was made here are far too small for it.
 fn fill(counts: &mut [u64], best: &mut [u32], from: usize, at: usize, members: u64, credit: u8)
     requires { ⌜ (members < 2 ^ 61) × (from + 61 ≤ length (now counts)) × (from + 61 ≤ length (now best)) × (at < length (now counts)) × (at < length (now best)) ⌝ }
-    ensures { λ _. ⌜ (now (counts .exit) ≡ set (now (counts .entry)) at (countOf members (cell (now (counts .entry)) from)))
-        × (now (best .exit) ≡ set (now (best .entry)) at ((mostOf members (cell (now (best .entry)) from) + credit) % 2 ^ 32)) ⌝ }
+    ensures { λ _. ⌜ (now (counts .exit) ≡ stored members (now (counts .entry)) at (countOf members (cell (now (counts .entry)) from)))
+        × (now (best .exit) ≡ stored members (now (best .entry)) at ((mostOf members (cell (now (best .entry)) from) + credit) % 2 ^ 32)) ⌝ }
 {
+    if members == 0 {
+        return;
+    }
     let here = gather(counts, best, from, members);
     counts[at] = here.count;
     best[at] = std::num::wrapping_add_u32(here.mark, credit as u32);

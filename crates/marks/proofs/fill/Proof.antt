@@ -1,10 +1,15 @@
--- The two stores are of what `gather` gives. Assumes nothing.
+-- Nothing is stored without a member; else the two stores are of what `gather` gives. Assumes nothing.
 use mathlib.Core.Path.{ap, _∙_}
 use Prim.Native.Nat.{ℕ, _+_, _%_, _^_}
-use lib.ListN.{set}
 use borrow.Author.Needs.{needs}
+use Rattle.marks.proofs.Fills.{stored-none, stored-some}
 use Rattle.marks.proofs.fill.Statement.{statement}
 use Rattle.marks.proofs.fill.Tie as tie
+
+returns : tie.Need-returns
+returns c =
+    let a = c .before .before .before .args in
+    (stored-none (a .members) (a .at) _ (a .counts .now) (c .if1 .taken), stored-none (a .members) (a .at) _ (a .best .now) (c .if1 .taken))
 
 gather-requires : tie.Need-gather-requires
 gather-requires c κs = search needs
@@ -30,16 +35,20 @@ same-length c = search needs
 same-length-2 : tie.Need-same-length-2
 same-length-2 c = search needs
 
-returns : tie.Need-returns
-returns c =
-    let a = c .before .before .before .before .before .before .args in
-    let g = c .before .gather .ensures in
-    (ap (set (a .counts .now) (a .at)) (g .0), ap (set (a .best .now) (a .at)) (c .wrapping-add-u32 .ensures ∙ ap (λ (x : ℕ). (x + a .credit) % 2 ^ 32) (g .1)))
+returns-2 : tie.Need-returns-2
+returns-2 c =
+    let a = c .before .before .before .before .before .before .before .args in
+    let some = c .before .before .before .before .if1 .left in
+    let g = c .before .gather .ensures in (
+      stored-some (a .members) (a .at) _ _ (a .counts .now) some (g .0),
+      stored-some (a .members) (a .at) _ _ (a .best .now) some (c .wrapping-add-u32 .ensures ∙ ap (λ (x : ℕ). (x + a .credit) % 2 ^ 32) (g .1)),
+    )
 
 pub fill-spec : {M : Type 1} → statement M
 fill-spec =
     tie.close
     (tie.spec
+    returns
     gather-requires
     mul-counts
     slice-write-counts
@@ -48,4 +57,4 @@ fill-spec =
     slice-write-best
     same-length
     same-length-2
-    returns)
+    returns-2)
