@@ -1,7 +1,7 @@
 /*
  * Marking patterns: vet a pattern, mark an answer.
  *
- * Both calls are pure: they keep no state, allocate nothing, and may be made from several threads at once. They read the memory
+ * The calls are pure: they keep no state, allocate nothing, and may be made from several threads at once. They read the memory
  * they are given, and write only what is said below. Any bytes may be passed: what is wrong with them is told by a refusal number.
  *
  *   1  the evidence has fewer than 4,096 bytes            (vet)
