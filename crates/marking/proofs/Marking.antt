@@ -1,5 +1,6 @@
 -- Marking an answer, refusal by refusal: which of the tests decides, and what is promised then. Assumes nothing.
 use mathlib.Core.Path.{_≡_, sym, ap, _∙_, subst}
+use mathlib.Core.Logic.{_⊎_, inl, inr}
 use mathlib.Core.Bool.{Bool, true, false, not}
 use mathlib.Core.List.{List}
 use Prim.Native.Nat.{ℕ, _^_, _≤_, _<_, min}
@@ -14,8 +15,8 @@ use Rattle.graph.specs.Readings.{readings, mark}
 use Rattle.pattern.specs.Refusals.{patternFault, builtGraph}
 use Rattle.pattern.specs.Positions.{patternGraph}
 use Rattle.marks.specs.Rows.{Answered}
-use Rattle.marking.specs.Marking.{markFault, MarkSays}
-use Rattle.marking.specs.declared.Marked.{Marked}
+use Rattle.marking.specs.Marking.{markFault, countShown, MarkSays, countAfter}
+use Rattle.marks.specs.declared.Marked.{Marked}
 
 -- an accepted pattern is built into its graph
 pub built-graph : (s : List ℕ) → patternFault s ≡ 0 → builtGraph s ≡ patternGraph s
@@ -60,13 +61,24 @@ module _ (s a : List ℕ) where
         mark = h .2 ∙ sym (if-no (mark (patternGraph s) a) 0 (eqb (markFault s a) 0) n);
       }
 
-  pub says-mark : (g : Graph) (count most : ℕ) → g ≡ builtGraph s → patternFault s ≡ 0 → markFault s a ≡ 0 → Answered g a count most
-      → MarkSays s a (record { refusal = 0; count = count; mark = most })
-  says-mark g count most e p f h =
-      let w = subst (λ (x : Graph). Answered x a count most) (e ∙ built-graph s p) h in
+  pub says-mark : (g : Graph) (r : Marked) → g ≡ builtGraph s → patternFault s ≡ 0 → markFault s a ≡ 0 → (r .refusal ≡ 0) × Answered g a (r .count) (r .mark) → MarkSays s a r
+  says-mark g r e p f h =
+      let w = subst (λ (x : Graph). Answered x a (r .count) (r .mark)) (e ∙ built-graph s p) (h .1) in
       let y : eqb (markFault s a) 0 ≡ true = eq-eqb (markFault s a) 0 f in
       record {
-        refusal = sym f;
+        refusal = h .0 ∙ sym f;
         count = w .counts ∙ sym (if-yes (min (readings (patternGraph s) a) (2 ^ 63)) 0 (eqb (markFault s a) 0) y);
         mark = w .marks ∙ sym (if-yes (mark (patternGraph s) a) 0 (eqb (markFault s a) 0) y);
       }
+
+  -- ---- the number that C is lent
+
+  pub count-kept : (old : ℕ) → (markFault s a ≡ 0 → ⊥) → countAfter s a old ≡ old
+  count-kept old d = if-no (countShown s a) old (eqb (markFault s a) 0) (ne-eqb (markFault s a) 0 d)
+
+  count-stored : (r : Marked) (old : ℕ) → MarkSays s a r → r .refusal ≡ 0 → r .count ≡ countAfter s a old
+  count-stored r old h z = h .count ∙ sym (if-yes (countShown s a) old (eqb (markFault s a) 0) (eq-eqb (markFault s a) 0 (sym (h .refusal) ∙ z)))
+
+  pub count-after : (r : Marked) (old new : ℕ) → MarkSays s a r → ((r .refusal ≡ 0) × (new ≡ r .count)) ⊎ ((r .refusal ≡ 0 → ⊥) × (new ≡ old)) → new ≡ countAfter s a old
+  count-after r old new h (inl w) = w .1 ∙ count-stored r old h (w .0)
+  count-after r old new h (inr w) = w .1 ∙ sym (count-kept old (λ z. w .0 (h .refusal ∙ z)))

@@ -1,9 +1,8 @@
--- Vetting a pattern, refusal by refusal, and that the lengths of what is shown fit into 12 bits each. Assumes nothing.
+-- Vetting a pattern, refusal by refusal: which of the tests decides, what is promised then, and what a result says. Assumes nothing.
 use mathlib.Core.Path.{_≡_, refl, sym, ap, _∙_, subst}
 use mathlib.Core.Bool.{Bool, true, false}
 use mathlib.Core.List.{List}
-use Prim.Native.Nat.{ℕ, zero, suc, _+_, _*_, _≤_, _<_}
-use native.Mathlib.Nat.{mul-le-mul}
+use Prim.Native.Nat.{ℕ, zero, suc, _≤_, _<_}
 use native.Mathlib.Omega.{arith}
 use lib.Dec.{ltb}
 use lib.ListN.{length}
@@ -12,15 +11,11 @@ use Rattle.basics.specs.Choice.{if_then_else_}
 use Rattle.basics.proofs.Tests.{by-test, if-yes, if-no}
 use Rattle.graph.specs.Graph.{Graph}
 use Rattle.graph.specs.Trim.{Trim}
-use Rattle.pattern.specs.Grammar.{patternPart}
 use Rattle.pattern.specs.Refusals.{patternFault, builtGraph}
-use Rattle.pattern.specs.Positions.{places, patternGraph}
-use Rattle.pattern.proofs.Accepted.{fault-none}
 use Rattle.pattern.proofs.Useful.{trim}
-use Rattle.walk.specs.Answers.{ShowsBy, Vets}
-use Rattle.walk.specs.declared.Vetted as Walk
-use Rattle.marking.specs.Vetting.{vetFault, refused, lengths, Judged, VetBy, VetSays}
-use Rattle.marking.specs.declared.Vetted.{Vetted}
+use Rattle.walk.specs.Answers.{Judged}
+use Rattle.walk.specs.declared.Vetted.{Vetted}
+use Rattle.marking.specs.Vetting.{vetFault, refused, Answers, Declined, VetBy, VetSays}
 use Rattle.marking.proofs.Marking.{built-graph}
 
 -- ---- which refusal
@@ -56,50 +51,39 @@ pub says-refusal : (k : ℕ) (s e w : List ℕ) (r : Vetted) → (k ≡ 0 → �
 says-refusal zero s e w r d f h = absurd (d refl)
 says-refusal (suc k) s e w r d f h = subst (λ (n : ℕ). VetBy n s e e w w r) (sym f) (record { result = h; evidence = refl; scratch = refl })
 
-pub says-verdict : (s e e′ w w′ : List ℕ) (r : Vetted) → vetFault s (length e) (length w) ≡ 0 → Judged s e e′ w w′ r → VetSays s e e′ w w′ r
+pub says-verdict : (s e e′ w w′ : List ℕ) (r : Vetted) → vetFault s (length e) (length w) ≡ 0 → Answers s e e′ w w′ r → VetSays s e e′ w w′ r
 says-verdict s e e′ w w′ r f h = subst (λ (n : ℕ). VetBy n s e e′ w w′ r) (sym f) h
 
 -- the graph that was built is the pattern's
 pub trim-built : (s : List ℕ) (g : Graph) → g ≡ builtGraph s → patternFault s ≡ 0 → Trim g
 trim-built s g e f = subst Trim (sym (e ∙ built-graph s f)) (trim s f)
 
-pub judged : (s e e′ w w′ : List ℕ) (g : Graph) (v : Walk.Vetted) → g ≡ builtGraph s → patternFault s ≡ 0 → Vets g e e′ v → length w′ ≡ length w
-    → Judged s e e′ w w′ (record { refusal = 0; verdict = v .verdict; places = g .places; first = v .first; second = v .second; third = v .third })
-judged s e e′ w w′ g v p f h l =
-    let q = p ∙ built-graph s f in
-    record { refusal = refl; places = ap (λ (x : Graph). x .places) q; vets = subst (λ (x : Graph). Vets x e e′ v) q h; scratch = l }
+pub answers : (s e e′ w w′ : List ℕ) (g : Graph) (r : Vetted) → g ≡ builtGraph s → patternFault s ≡ 0 → Judged g e e′ r → length w′ ≡ length w → Answers s e e′ w w′ r
+answers s e e′ w w′ g r p f h l = record { judged = subst (λ (x : Graph). Judged x e e′ r) (p ∙ built-graph s f) h; scratch = l }
 
--- ---- lengths of 12 bits
+-- ---- what a result says, by the refusal
 
-abbrev Small : Walk.Vetted → Type 0
-Small v = (v .first < 4096) × (v .second < 4096) × (v .third < 4096)
+-- the number by which vetting goes is the refusal
+refusal-by : (k : ℕ) (s e e′ w w′ : List ℕ) (r : Vetted) → VetBy k s e e′ w w′ r → r .refusal ≡ k
+refusal-by zero s e e′ w w′ r h = h .judged .refusal
+refusal-by (suc k) s e e′ w w′ r h = ap (λ (v : Vetted). v .refusal) (h .result)
 
--- p² + p is at most 3,660
-square : (p : ℕ) → p ≤ 60 → p * p + p ≤ 3660
-square p l = omega (arith, mul-le-mul l l)
+declined-by : (k : ℕ) (s e e′ w w′ : List ℕ) (r : Vetted) → (k ≡ 0 → ⊥) → VetBy k s e e′ w w′ r → Declined k e e′ w w′ r
+declined-by zero s e e′ w w′ r d h = absurd (d refl)
+declined-by (suc k) s e e′ w w′ r d h = h
 
-small-shown : (n : ℕ) (g : Graph) (e e′ : List ℕ) (v : Walk.Vetted) → g .places ≤ 60 → ShowsBy n g e e′ v → Small v
-small-shown zero g e e′ v l h = let a = h .first in let b = h .second in let c = h .third in omega arith
-small-shown (suc zero) g e e′ v l h =
-    let q = square (g .places) l in
-    let a = h .first in
-    let b = h .second in
-    let c = h .third in
-    let t = h .shows .short in
-    omega arith
-small-shown (suc (suc n)) g e e′ v l h =
-    let q = square (g .places) l in
-    let a = h .first in
-    let b = h .second in
-    let c = h .third in
-    let x = h .shows .short-x in
-    let y = h .shows .short-y in
-    let z = h .shows .short-z in
-    omega arith
+module _ (s e e′ w w′ : List ℕ) (r : Vetted) (says : VetSays s e e′ w w′ r) where
+  abbrev fault : ℕ
+  fault = vetFault s (length e) (length w)
 
-small-by : (n : ℕ) (s e e′ w w′ : List ℕ) (r : Vetted) → (n ≡ 0 → patternFault s ≡ 0) → VetBy n s e e′ w w′ r → Small (lengths r)
-small-by zero s e e′ w w′ r f h = small-shown (r .verdict) (patternGraph s) e e′ (lengths r) (fault-none s (f refl) .few) (h .vets .shows)
-small-by (suc k) s e e′ w w′ r f h = subst (λ (v : Vetted). Small (lengths v)) (sym (h .result)) (omega arith)
+  pub refusal-is : r .refusal ≡ fault
+  refusal-is = refusal-by fault s e e′ w w′ r says
 
-pub small-lengths : (s e e′ w w′ : List ℕ) (r : Vetted) → VetSays s e e′ w w′ r → Small (lengths r)
-small-lengths s e e′ w w′ r h = small-by (vetFault s (length e) (length w)) s e e′ w w′ r (accepts s (length e) (length w)) h
+  pub accepted : r .refusal ≡ 0 → patternFault s ≡ 0
+  accepted z = accepts s (length e) (length w) (sym refusal-is ∙ z)
+
+  pub answered : r .refusal ≡ 0 → Answers s e e′ w w′ r
+  answered z = subst (λ (n : ℕ). VetBy n s e e′ w w′ r) (sym refusal-is ∙ z) says
+
+  pub declined : (r .refusal ≡ 0 → ⊥) → Declined (r .refusal) e e′ w w′ r
+  declined d = subst (λ (n : ℕ). Declined n e e′ w w′ r) (sym refusal-is) (declined-by fault s e e′ w w′ r (λ z. d (refusal-is ∙ z)) says)

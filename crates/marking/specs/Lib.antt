@@ -1,3 +1,4 @@
 -- What the calls promise.
+pub mod Packing
 pub mod Marking
 pub mod Vetting

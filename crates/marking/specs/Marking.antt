@@ -2,7 +2,7 @@
 use mathlib.Core.Path.{_≡_}
 use mathlib.Core.Bool.{not}
 use mathlib.Core.List.{List}
-use Prim.Native.Nat.{ℕ, _+_, _*_, _^_, min}
+use Prim.Native.Nat.{ℕ, _^_, _<_, min}
 use lib.Dec.{eqb, ltb}
 use lib.ListN.{length}
 use Rattle.basics.specs.Choice.{if_then_else_}
@@ -10,9 +10,11 @@ use Rattle.letters.specs.Alphabet.{allLetters}
 use Rattle.graph.specs.Readings.{readings, mark}
 use Rattle.pattern.specs.Refusals.{patternFault}
 use Rattle.pattern.specs.Positions.{patternGraph}
-use Rattle.marking.specs.declared.Marked.{Marked}
+use Rattle.marks.specs.declared.Marked.{Marked}
+use Rattle.marking.specs.Packing.{markPacked}
 
--- "mark checks 3 to 10": "The answer has more than 4,096 bytes. A byte of the answer is no letter."; 0 where none applies
+-- [Refusals] those of the pattern, then 9, more than 4,096 bytes of answer, then 10, a byte of the answer that is no letter; 0 where
+-- none applies
 abbrev pub markFault : List ℕ → List ℕ → ℕ
 markFault s a =
     if not (eqb (patternFault s) 0) then patternFault s
@@ -20,7 +22,7 @@ markFault s a =
     else if not (allLetters a) then 10
     else 0
 
--- "the count, the smaller of the true number of readings and 2^63", and the mark; both 0 at a refusal
+-- [Marking] the smaller of the number of readings and 2^63, and the mark; both 0 at a refusal
 abbrev pub countShown : List ℕ → List ℕ → ℕ
 countShown s a = if eqb (markFault s a) 0 then min (readings (patternGraph s) a) (2 ^ 63) else 0
 
@@ -32,9 +34,14 @@ pub record MarkSays (s a : List ℕ) (r : Marked) : Type 0 where
   pub count : r .count ≡ countShown s a
   pub mark : r .mark ≡ markShown s a
 
--- for C: the mark in bits 0 to 31, the refusal in bits 32 to 39; the count is stored where there is no refusal
-abbrev pub markPacked : List ℕ → List ℕ → ℕ
-markPacked s a = markFault s a * 2 ^ 32 + markShown s a
-
+-- [Memory] the number that C is lent: the count where there is no refusal, else what was there
 abbrev pub countAfter : List ℕ → List ℕ → ℕ → ℕ
 countAfter s a old = if eqb (markFault s a) 0 then countShown s a else old
+
+-- for C: the packed result, whose mark fits its field, and what stands behind the pointer before and after
+pub record MarkForC (s a : List ℕ) (old new packed : ℕ) : Type 0 where
+  pub marked : Marked
+  pub says : MarkSays s a marked
+  pub small : marked .mark < 2 ^ 32
+  pub packing : packed ≡ markPacked marked
+  pub stored : new ≡ countAfter s a old

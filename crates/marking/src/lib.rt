@@ -1,22 +1,12 @@
 // The calls that clients make, from Rattle and from C. No call has a `requires`: each tests its input itself, and what it
 // gives is said for all input.
+use marks::Marked;
+use walk::Vetted;
 ghost use mathlib.Core.Path.{_≡_};
 ghost use Prim.Native.Nat.{_<_, _^_};
-ghost use lib.Dec.{eqb};
-ghost use Rattle.basics.specs.Choice.{if_then_else_};
-ghost use Rattle.marking.specs.Marking.{MarkSays, markPacked, countAfter};
-ghost use Rattle.marking.specs.Vetting.{VetSays, VetForC, VetAlone, refused, vetPacked};
-
-// What vetting gives: the refusal, or 0 and the verdict (0 single, 1 steady, 2 runaway), the number of positions, and the lengths
-// of the texts at the beginning of the evidence.
-pub struct Vetted {
-    pub refusal: u8,
-    pub verdict: u8,
-    pub places: u8,
-    pub first: u32,
-    pub second: u32,
-    pub third: u32,
-}
+ghost use Rattle.marking.specs.Marking.{MarkSays, MarkForC};
+ghost use Rattle.marking.specs.Vetting.{VetSays, VetForC, VetAlone, refused};
+ghost use Rattle.marking.specs.Packing.{vetPacked};
 
 // Vets a pattern. The evidence gets the texts that show the verdict, and beyond them keeps its old bytes; scratch may hold
 // anything before, and does after.
@@ -34,16 +24,7 @@ pub fn vet_pattern(pattern: &[u8], evidence: &mut [u8], scratch: &mut [u16]) -> 
         return no_verdict(p.refusal);
     }
     let built = p.built;
-    let places = built.places as u8;
-    let v = walk::vet(built, &mut *evidence, &mut *scratch);
-    Vetted {
-        refusal: 0,
-        verdict: v.verdict,
-        places: places,
-        first: v.first,
-        second: v.second,
-        third: v.third,
-    }
+    walk::vet(built, &mut *evidence, &mut *scratch)
 }
 
 // A refusal to vet.
@@ -92,13 +73,6 @@ fn packed(v: Vetted) -> u64
         + v.third as u64 * 0x1_0000_0000_0000
 }
 
-// What marking gives: the refusal, or 0 and the number of readings, 2^63 where it is that or more, and the mark.
-pub struct Marked {
-    pub refusal: u8,
-    pub count: u64,
-    pub mark: u32,
-}
-
 // Marks an answer by a pattern.
 pub fn mark_answer(pattern: &[u8], answer: &[u8]) -> Marked
     ensures { λ r. ⌜ MarkSays (now (pattern .entry)) (now (answer .entry)) r ⌝ }
@@ -114,12 +88,7 @@ pub fn mark_answer(pattern: &[u8], answer: &[u8]) -> Marked
         return no_mark(10);
     }
     let built = p.built;
-    let m = marks::mark(built, answer);
-    Marked {
-        refusal: 0,
-        count: m.count,
-        mark: m.mark,
-    }
+    marks::mark(built, answer)
 }
 
 // A refusal to mark.
@@ -134,19 +103,14 @@ fn no_mark(refusal: u8) -> Marked
 }
 
 // The same for C: the mark in bits 0 to 31 of the result and the refusal in bits 32 to 39. The count is stored behind the
-// pointer only where there is no refusal.
+// pointer where there is no refusal; at a refusal nothing is read or stored there.
 #[no_mangle]
 pub extern "C" fn marking_mark(pattern: &[u8], answer: &[u8], count: &mut u64) -> u64
-    ensures { λ r. ⌜ (r ≡ markPacked (now (pattern .entry)) (now (answer .entry))) × (now (count .exit) ≡ countAfter (now (pattern .entry)) (now (answer .entry)) (now (count .entry))) ⌝ }
+    ensures { λ r. ⌜ MarkForC (now (pattern .entry)) (now (answer .entry)) (now (count .entry)) (now (count .exit)) r ⌝ }
 {
     let m = mark_answer(pattern, answer);
-    *count = kept_or(m.refusal, *count, m.count);
+    if m.refusal == 0 {
+        *count = m.count;
+    }
     m.refusal as u64 * 0x1_0000_0000 + m.mark as u64
-}
-
-// The new value, or where there is a refusal the old one.
-fn kept_or(refusal: u8, old: u64, new: u64) -> u64
-    ensures { λ r. ⌜ r ≡ (if eqb refusal 0 then new else old) ⌝ }
-{
-    if refusal == 0 { new } else { old }
 }

@@ -15,10 +15,18 @@ ghost use Rattle.graph.specs.Built.{setAt, shows};
 ghost use Rattle.marks.specs.Rows.{cell, stored, countOf, mostOf, Outside, Stepped, Answered};
 ghost use Rattle.marks.specs.Tables.{Columns, Entered, tables};
 
-// The number of readings, 2^63 where there are more, and the most credit that one earns, 0 where there is none.
+// What marking gives: the refusal, or 0 and the number of readings, 2^63 where it is that or more, and the most credit that one
+// earns, 0 where there is none. By a built pattern no answer is refused.
 pub struct Marked {
+    pub refusal: u8,
     pub count: u64,
     pub mark: u32,
+}
+
+// Counts taken together, and the greatest of some credits.
+struct Sum {
+    count: u64,
+    most: u32,
 }
 
 // Where counts stop.
@@ -27,14 +35,14 @@ const MOST: u64 = 0x8000_0000_0000_0000;
 // The number of readings of an answer and its mark. A byte that is no letter is held by no position.
 pub fn mark(b: Built, answer: &[u8]) -> Marked
     requires { ⌜ Bounded (shows b) × (length (now answer) ≤ 4096) ⌝ }
-    ensures { λ r. ⌜ Answered (shows b) (now (answer .entry)) (r .count) (r .mark) ⌝ }
+    ensures { λ r. ⌜ (r .refusal ≡ 0) × Answered (shows b) (now (answer .entry)) (r .count) (r .mark) ⌝ }
 {
     let before = states_before(&b.follow);
     let holders = holders_of(b.letters);
     let credits = b.credits;
     let mut counts = [0u64; 122];
     let mut best = [0u32; 122];
-    run(
+    let sum = run(
         &mut counts,
         &mut best,
         answer,
@@ -42,7 +50,12 @@ pub fn mark(b: Built, answer: &[u8]) -> Marked
         &before,
         b.lasts,
         &credits,
-    )
+    );
+    Marked {
+        refusal: 0,
+        count: sum.count,
+        mark: sum.most,
+    }
 }
 
 // The sum, 2^63 where it is more, of any two numbers.
@@ -65,9 +78,9 @@ fn greater(x: u32, y: u32) -> u32
 }
 
 // The counts of the members of a set taken together, and their greatest credit, in the row that begins at `from`.
-fn gather(counts: &[u64], best: &[u32], from: usize, members: u64) -> Marked
+fn gather(counts: &[u64], best: &[u32], from: usize, members: u64) -> Sum
     requires { ⌜ (members < 2 ^ 61) × (from + 61 ≤ length (now counts)) × (from + 61 ≤ length (now best)) ⌝ }
-    ensures { λ r. ⌜ (r .count ≡ countOf members (cell (now (counts .entry)) from)) × (r .mark ≡ mostOf members (cell (now (best .entry)) from)) ⌝ }
+    ensures { λ r. ⌜ (r .count ≡ countOf members (cell (now (counts .entry)) from)) × (r .most ≡ mostOf members (cell (now (best .entry)) from)) ⌝ }
 {
     let mut left = members;
     let mut count = 0;
@@ -78,9 +91,9 @@ fn gather(counts: &[u64], best: &[u32], from: usize, members: u64) -> Marked
         most = greater(most, best[from + u]);
         left = bits::rest(left);
     }
-    Marked {
+    Sum {
         count: count,
-        mark: most,
+        most: most,
     }
 }
 
@@ -96,7 +109,7 @@ fn fill(counts: &mut [u64], best: &mut [u32], from: usize, at: usize, members: u
     }
     let here = gather(counts, best, from, members);
     counts[at] = here.count;
-    best[at] = std::num::wrapping_add_u32(here.mark, credit as u32);
+    best[at] = std::num::wrapping_add_u32(here.most, credit as u32);
 }
 
 // The set with i, where `some` is not empty.
@@ -148,10 +161,10 @@ fn run(
     before: &[u64; 61],
     lasts: u64,
     credits: &[u8; 61],
-) -> Marked
+) -> Sum
     requires { ⌜ (122 ≤ length (now counts)) × (122 ≤ length (now best)) × (length (now answer) ≤ 4096) × ((b : ℕ) → getD (now holders) b 0 < 2 ^ 61) ⌝ }
     ensures { λ r. ⌜ ((places : ℕ) → Bounded (tables places (now (holders .entry)) (now (before .entry)) lasts (now (credits .entry)))
-        → Answered (tables places (now (holders .entry)) (now (before .entry)) lasts (now (credits .entry))) (now (answer .entry)) (r .count) (r .mark)) ⌝ }
+        → Answered (tables places (now (holders .entry)) (now (before .entry)) lasts (now (credits .entry))) (now (answer .entry)) (r .count) (r .most)) ⌝ }
 {
     counts[0] = 1;
     best[0] = 0;

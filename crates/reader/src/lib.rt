@@ -1,7 +1,7 @@
 // Reading a pattern: its refusal, or the built pattern. `read` takes any bytes.
-pub mod atoms;
-pub mod parts;
-pub mod scan;
+mod atoms;
+mod parts;
+mod scan;
 
 use graph::Built;
 use parts::Parsed;

@@ -26,21 +26,29 @@ use Rattle.graph.proofs.Walks.{position-of}
 use Rattle.verdict.specs.Pairs.{bothHold, shares, letterShown}
 use Rattle.verdict.specs.Verdict.{partsTo, ambiguous, isPivot, firstPivot, verdict}
 use Rattle.verdict.specs.Evidence.{shown, ShowsSteady, ShowsRunaway}
+use Rattle.verdict.specs.Answers.{Begins, Vets}
 use Rattle.verdict.proofs.Pairs.{place-low, place-told}
 use Rattle.verdict.proofs.Flags.{start}
 use Rattle.verdict.proofs.Parting.{Parting, short-parting}
 use Rattle.verdict.proofs.Pivots.{first-pivot, backTo, Loops, parting-loops}
 use Rattle.verdict.proofs.Shows.{bothLast, parting-steady, loops-runaway}
 use Rattle.walk.specs.declared.Goal.{Goal}
+use Rattle.walk.specs.declared.Vetted.{Vetted}
 use Rattle.walk.specs.Nodes.{leftOf, rightOf, goes, Step, single, beside}
 use Rattle.walk.specs.Walks.{isGoal}
 use Rattle.walk.specs.Tables.{Rows, Shares}
 use Rattle.walk.specs.Texts.{held, letterAt, Showable, written, Told, Shown}
-use Rattle.walk.specs.Answers.{Vettable, Begins, Vets}
+use Rattle.walk.specs.Answers.{Vettable, judged, Judged}
 use Rattle.walk.proofs.Nodes.{left-low, right-low, sides}
 use Rattle.walk.proofs.Linking.{shares-swap, places}
 use Rattle.walk.proofs.Searching.{goal-low, bothIn, parted, short-nodes, shown-codes, some-parts, none-parts, letterOf, chain-route, route-chain}
 use Rattle.walk.proofs.Pivoting.{onlyAt, equal-swap}
+
+-- ---- what is returned
+
+-- a verdict whose texts are shown
+pub judges : {g : Graph} {e e′ : List ℕ} {v l m n : ℕ} {r : Vetted} → r ≡ judged (g .places) v l m n → Vets g e e′ v l m n → Judged g e e′ r
+judges {g} {e} {e′} is h = subst (Judged g e e′) (sym is) (record { refusal = refl; places = refl; vets = h })
 
 -- ---- texts one after the other
 
@@ -184,7 +192,7 @@ module _ {b : Built} (fit : Vettable b) where
     verdict-low : verdict g ≡ (if ambiguous g then 1 else 0)
     verdict-low = if-no 2 (if ambiguous g then 1 else 0) (not (eqb (firstPivot g) 0)) (ap not (eq-eqb (firstPivot g) 0 no))
 
-    pub single-answer : 4096 ≤ r → Vets g e e′ (record { verdict = 0; first = 0; second = 0; third = 0 })
+    pub single-answer : 4096 ≤ r → Vets g e e′ 0 0 0 0
     single-answer l =
         let n = s .none l in
         record {
@@ -192,7 +200,7 @@ module _ {b : Built} (fit : Vettable b) where
           shows = record { first = refl; second = refl; third = refl; kept = n .0 };
         }
 
-    pub steady-answer : r < 4096 → Vets g e e′ (record { verdict = 1; first = r; second = 0; third = 0 })
+    pub steady-answer : r < 4096 → Vets g e e′ 1 r 0 0
     steady-answer l =
         let t = s .some l in
         let w = two-walks sh (bothLast g) (λ c d. refl) zero-le t in
@@ -262,7 +270,7 @@ module _ {b : Built} (fit : Vettable b) where
 
     -- the three texts
     pub runaway-answer : {S : List ℕ} → Shares g S → {e e1 e2 e3 : List ℕ} {x y z : ℕ} → ToldRoute e e1 m 0 0 x → Told (b .letters) (b .follow) S e1 e2 (onlyAt m) q x y → ToldRoute e2 e3 (b .lasts) q (x + y) z
-        → Vets g e e3 (record { verdict = 2; first = x; second = y; third = z })
+        → Vets g e e3 2 x y z
     runaway-answer sh {e} {e1} {e2} {e3} {x} {y} {z} tx ty tz =
         let i = routed zero-le tx in
         let o = routed low tz in

@@ -20,24 +20,24 @@ ghost use Rattle.walk.specs.Nodes.{IsNode, pack, leftOf, rightOf, RowOf,
 ghost use Rattle.walk.specs.Walks.{takeUp, Marked, isGoal, Tried, Hunted, Searched};
 ghost use Rattle.walk.specs.Tables.{Rows, Shares};
 ghost use Rattle.walk.specs.Texts.{held, Lettered, letterAt, Showable, Linked, Behind, Traced, Shown};
-ghost use Rattle.walk.specs.Answers.{Vettable, Vets};
+ghost use Rattle.walk.specs.Answers.{Vettable, judged, Judged};
 
 // A search under way. A node is a number: below 64 a state, where both paths are and have not parted; a * 64 + b, with
 // 1 <= b <= a, where they have parted and are now at a and b. `head` and `tail` bound the queue of nodes taken up whose steps are
 // still to be gone through. `alone` has the states taken up. The pairs taken up are in rows beside it, `seen`, which are lent and
 // not copied: row a has b, and row b has a, where the pair of a and b is: so whether a node is new is one bit, and the new
 // partners of a are one word.
-pub struct Walk {
-    pub head: usize,
-    pub tail: usize,
-    pub found: bool,
-    pub alone: u64,
+struct Walk {
+    head: usize,
+    tail: usize,
+    found: bool,
+    alone: u64,
 }
 
 // Where a search is to end: a parted pair in `mask`, or for a search of one path a state in it.
-pub struct Goal {
-    pub mask: u64,
-    pub parted: bool,
+struct Goal {
+    mask: u64,
+    parted: bool,
 }
 
 // The lent numbers: at i the i-th node taken up, and at BACK + i the queue number of the node that it was taken up from. No two
@@ -190,7 +190,7 @@ fn begin(scratch: &mut [u16], goal: Goal, start: usize) -> Walk
 
 // One visit: one node more is taken up, the first new one that is a step on from the head of the queue. A head with none is
 // passed. It is safe and ends whatever the state and the lent numbers hold.
-pub fn visit<'a>(
+fn visit<'a>(
     follow: &'a [u64; 61],
     shares: &'a [u64; 61],
     seen: &mut [u64; 61],
@@ -414,19 +414,37 @@ fn fill(sets: [LetterSet; 61], rows: &mut [u64; 61], places: usize)
     }
 }
 
-// What vetting answers: 0 single, 1 steady, 2 runaway, and how many letters of evidence show it: of a steady pattern a text
-// with two readings; of a runaway one a way to its first pivot, a text with two loops there, and a way to an end.
+// What vetting gives: the refusal, or 0 and the verdict (0 single, 1 steady, 2 runaway), the number of positions, and the
+// lengths of the texts at the beginning of the evidence: of a steady pattern a text with two readings; of a runaway one a way to
+// its first pivot, a text with two loops there, and a way to an end. A built pattern is never refused.
 pub struct Vetted {
+    pub refusal: u8,
     pub verdict: u8,
+    pub places: u8,
     pub first: u32,
     pub second: u32,
     pub third: u32,
 }
 
+// A verdict with the lengths of its texts.
+fn judgement(places: usize, verdict: u8, first: usize, second: usize, third: usize) -> Vetted
+    requires { ⌜ (places ≤ 60) × (first ≤ 4096) × (second ≤ 4096) × (third ≤ 4096) ⌝ }
+    ensures { λ r. ⌜ r ≡ judged places verdict first second third ⌝ }
+{
+    Vetted {
+        refusal: 0,
+        verdict: verdict,
+        places: places as u8,
+        first: first as u32,
+        second: second as u32,
+        third: third as u32,
+    }
+}
+
 // Of a pattern without a pivot: steady where two readings part and both come to an end, else single.
 fn unless_runaway(b: Built, shares: &[u64; 61], evidence: &mut [u8], scratch: &mut [u16]) -> Vetted
     requires { ⌜ Vettable b × Shares (shows b) (now shares) × (firstPivot (shows b) ≡ 0) × (4096 ≤ length (now evidence)) × (4096 ≤ length (now scratch)) ⌝ }
-    ensures { λ r. ⌜ Vets (shows b) (now (evidence .entry)) (now (evidence .exit)) r ⌝ }
+    ensures { λ r. ⌜ Judged (shows b) (now (evidence .entry)) (now (evidence .exit)) r ⌝ }
 {
     let follow = b.follow;
     let sets = b.letters;
@@ -445,19 +463,9 @@ fn unless_runaway(b: Built, shares: &[u64; 61], evidence: &mut [u8], scratch: &m
         0,
     );
     if n == NONE {
-        return Vetted {
-            verdict: 0,
-            first: 0,
-            second: 0,
-            third: 0,
-        };
+        return judgement(b.places, 0, 0, 0, 0);
     }
-    Vetted {
-        verdict: 1,
-        first: n as u32,
-        second: 0,
-        third: 0,
-    }
+    judgement(b.places, 1, n, 0, 0)
 }
 
 // Of a pattern whose first pivot is q.
@@ -469,7 +477,7 @@ fn runaway(
     q: usize,
 ) -> Vetted
     requires { ⌜ Vettable b × Shares (shows b) (now shares) × (firstPivot (shows b) ≡ q) × (0 < q) × (4096 ≤ length (now evidence)) × (4096 ≤ length (now scratch)) ⌝ }
-    ensures { λ r. ⌜ Vets (shows b) (now (evidence .entry)) (now (evidence .exit)) r ⌝ }
+    ensures { λ r. ⌜ Judged (shows b) (now (evidence .entry)) (now (evidence .exit)) r ⌝ }
 {
     let follow = b.follow;
     let sets = b.letters;
@@ -517,18 +525,13 @@ fn runaway(
         q,
         x + y,
     );
-    Vetted {
-        verdict: 2,
-        first: x as u32,
-        second: y as u32,
-        third: z as u32,
-    }
+    judgement(b.places, 2, x, y, z)
 }
 
 // The verdict of a pattern, with its evidence. 4,096 bytes and 4,096 numbers are enough, whatever they hold.
 pub fn vet(b: Built, evidence: &mut [u8], scratch: &mut [u16]) -> Vetted
     requires { ⌜ Vettable b × (4096 ≤ length (now evidence)) × (4096 ≤ length (now scratch)) ⌝ }
-    ensures { λ r. ⌜ Vets (shows b) (now (evidence .entry)) (now (evidence .exit)) r ⌝ }
+    ensures { λ r. ⌜ Judged (shows b) (now (evidence .entry)) (now (evidence .exit)) r ⌝ }
 {
     let follow = b.follow;
     let sets = b.letters;

@@ -55,7 +55,7 @@ returns-4 c =
     let p = c .before .before .before .before .before .before .before .read in
     let f = sym (p .ensures .refusal) ∙ c .before .before .before .before .before .if1 .left in
     let l = c .before .before .before .all-letters in
-    says-mark (a .pattern .now) (a .answer .now) _ (c .mark .result .count) (c .mark .result .mark) (p .ensures .graph) f
+    says-mark (a .pattern .now) (a .answer .now) _ (c .mark .result) (p .ensures .graph) f
     (accepted (a .pattern .now) (a .answer .now) f (c .before .before .before .before .if2 .left) (sym (l .ensures) ∙ not-false (l .result) (c .before .before .if3 .left))) (c .mark .ensures)
 
 pub mark-answer-spec : {M : Type 1} → statement M

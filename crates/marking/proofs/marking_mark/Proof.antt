@@ -1,18 +1,13 @@
--- The packing follows from what marking promises, field by field. Assumes nothing.
-use mathlib.Core.Path.{_≡_, sym, ap, ap₂, _∙_}
-use mathlib.Core.Bool.{Bool}
-use Prim.Native.Nat.{ℕ, _+_, _*_, _^_}
-use lib.Dec.{eqb}
+-- The packing is as it stands; the count is stored by the test on the refusal. Assumes nothing.
+use mathlib.Core.Path.{refl}
+use mathlib.Core.Logic.{inl, inr, ⊎-elim}
 use borrow.Author.Needs.{needs}
-use Rattle.basics.specs.Choice.{if_then_else_}
+use Rattle.marking.proofs.Marking.{count-after}
 use Rattle.marking.proofs.marking_mark.Statement.{statement}
 use Rattle.marking.proofs.marking_mark.Tie as tie
 
 mark-answer-requires : tie.Need-mark-answer-requires
 mark-answer-requires c κs = search needs
-
-kept-or-requires : tie.Need-kept-or-requires
-kept-or-requires c κs = search needs
 
 cast-result : tie.Need-cast-result
 cast-result c = search needs
@@ -28,18 +23,21 @@ add-result c = search needs
 
 returns : tie.Need-returns
 returns c =
-    let m = c .before .before .before .before .mark-answer .ensures in
-    let old = c .before .before .before .before .before .before .before .args .count .now in (
-      ap₂ (λ (f k : ℕ). f * 2 ^ 32 + k) (m .refusal) (m .mark),
-      c .before .before .kept-or .ensures ∙ ap₂ (λ (f n : ℕ). if eqb f 0 then n else old) (m .refusal) (m .count),
-    )
+    let a = c .before .before .before .before .before .before .before .args in
+    let m = c .before .before .before .before .mark-answer in
+    record {
+      marked = m .result;
+      says = m .ensures;
+      small = search needs;
+      packing = refl;
+      stored = count-after (a .pattern .now) (a .answer .now) (m .result) (a .count .now) (c .before .before .if1 .count) (m .ensures) (⊎-elim (λ w. inl (w .0 .taken, w .1)) (λ w. inr (w .0 .left, w .1)) (c .before .before .if1 .came));
+    }
 
 pub marking-mark-spec : {M : Type 1} → statement M
 marking-mark-spec =
     tie.close
     (tie.spec
     mark-answer-requires
-    kept-or-requires
     cast-result
     mul-result
     cast-result-2

@@ -1,6 +1,6 @@
 -- The packing of what vetting gives; the lengths fit their fields. Assumes nothing.
 use borrow.Author.Needs.{needs}
-use Rattle.marking.proofs.Vetting.{small-lengths}
+use Rattle.marking.proofs.Packing.{fits}
 use Rattle.marking.proofs.marking_vet_in.Statement.{statement}
 use Rattle.marking.proofs.marking_vet_in.Tie as tie
 
@@ -11,7 +11,8 @@ packed-requires : tie.Need-packed-requires
 packed-requires c κs =
     let a = c .before .before .before .before .before .before .before .before .before .before .args in
     let v = c .before .before .before .before .vet-pattern in
-    small-lengths (a .pattern .now) (a .evidence .now) (v .last .1 .0) (a .scratch .now) (v .last .1 .1 .0) (v .result) (v .ensures)
+    let f = fits (a .pattern .now) (a .evidence .now) (v .last .1 .0) (a .scratch .now) (v .last .1 .1 .0) (v .result) (v .ensures) in
+    (f .first, f .second, f .third)
 
 same-length : tie.Need-same-length
 same-length c = search needs

@@ -5,7 +5,7 @@ use native.Mathlib.Omega.{arith}
 use lib.ListN.{length}
 use borrow.Author.Needs.{needs}
 use Rattle.graph.specs.Built.{shows}
-use Rattle.marking.proofs.Vetting.{little-evidence, little-scratch, by-pattern, says-refusal, says-verdict, trim-built, judged}
+use Rattle.marking.proofs.Vetting.{little-evidence, little-scratch, by-pattern, says-refusal, says-verdict, trim-built, answers}
 use Rattle.marking.proofs.vet_pattern.Statement.{statement}
 use Rattle.marking.proofs.vet_pattern.Tie as tie
 
@@ -40,14 +40,11 @@ returns-3 c =
     says-refusal (p .result .refusal) (a .pattern .now) (a .evidence .now) (a .scratch .now) (c .no-verdict3 .result) (c .before .if3 .taken)
     (by-pattern (a .pattern .now) (length (a .evidence .now)) (length (a .scratch .now)) (c .before .before .before .before .before .if1 .left) (c .before .before .before .before .if2 .left) ∙ sym (p .ensures .refusal)) (c .no-verdict3 .ensures)
 
-cast-places : tie.Need-cast-places
-cast-places c = search needs
-
 vet-requires : tie.Need-vet-requires
 vet-requires c κs =
-    let a = c .before .before .before .before .before .before .before .before .before .before .before .before .args in
-    let p = c .before .before .before .before .before .before .read in
-    let f = sym (p .ensures .refusal) ∙ c .before .before .before .before .if3 .left in
+    let a = c .before .before .before .before .before .before .before .before .before .before .before .args in
+    let p = c .before .before .before .before .before .read in
+    let f = sym (p .ensures .refusal) ∙ c .before .before .before .if3 .left in
     (record { bounded = p .ensures .bounded; trim = trim-built (a .pattern .now) _ (p .ensures .graph) f }, omega arith, omega arith)
 
 same-length : tie.Need-same-length
@@ -58,14 +55,14 @@ same-length-2 c = search needs
 
 returns-4 : tie.Need-returns-4
 returns-4 c =
-    let a = c .before .before .before .before .before .before .before .before .before .before .before .before .before .before .before .before .before .args in
-    let p = c .before .before .before .before .before .before .before .before .before .before .before .read in
+    let a = c .before .before .before .before .before .before .before .before .before .before .before .before .before .before .before .before .args in
+    let p = c .before .before .before .before .before .before .before .before .before .before .read in
     let v = c .before .before .before .before .vet in
-    let f = sym (p .ensures .refusal) ∙ c .before .before .before .before .before .before .before .before .before .if3 .left in
+    let f = sym (p .ensures .refusal) ∙ c .before .before .before .before .before .before .before .before .if3 .left in
     let l : length (v .last .1 .1 .0) ≡ length (a .scratch .now) = search needs in
-    says-verdict (a .pattern .now) (a .evidence .now) (v .last .1 .0) (a .scratch .now) (v .last .1 .1 .0) _
-    (by-pattern (a .pattern .now) (length (a .evidence .now)) (length (a .scratch .now)) (c .before .before .before .before .before .before .before .before .before .before .before .before .before .if1 .left) (c .before .before .before .before .before .before .before .before .before .before .before .before .if2 .left) ∙ f)
-    (judged (a .pattern .now) (a .evidence .now) (v .last .1 .0) (a .scratch .now) (v .last .1 .1 .0) (shows (p .result .built)) (v .result) (p .ensures .graph) f (v .ensures) l)
+    says-verdict (a .pattern .now) (a .evidence .now) (v .last .1 .0) (a .scratch .now) (v .last .1 .1 .0) (v .result)
+    (by-pattern (a .pattern .now) (length (a .evidence .now)) (length (a .scratch .now)) (c .before .before .before .before .before .before .before .before .before .before .before .before .if1 .left) (c .before .before .before .before .before .before .before .before .before .before .before .if2 .left) ∙ f)
+    (answers (a .pattern .now) (a .evidence .now) (v .last .1 .0) (a .scratch .now) (v .last .1 .1 .0) (shows (p .result .built)) (v .result) (p .ensures .graph) f (v .ensures) l)
 
 pub vet-pattern-spec : {M : Type 1} → statement M
 vet-pattern-spec =
@@ -78,7 +75,6 @@ vet-pattern-spec =
     read-requires
     no-verdict-requires-3
     returns-3
-    cast-places
     vet-requires
     same-length
     same-length-2

@@ -3,7 +3,7 @@
 use Prim.Native.Nat.{_≤_}
 use native.Mathlib.Omega.{arith}
 use borrow.Author.Needs.{needs}
-use Rattle.walk.proofs.Answering.{honest, honest-none, showable, Pivot, first-low, way-in-told, way-in-short, way-out-told, loops-told, runaway-answer}
+use Rattle.walk.proofs.Answering.{judges, honest, honest-none, showable, Pivot, first-low, way-in-told, way-in-short, way-out-told, loops-told, runaway-answer}
 use Rattle.walk.proofs.runaway.Statement.{statement}
 use Rattle.walk.proofs.runaway.Tie as tie
 
@@ -65,14 +65,10 @@ show-requires-3 c κs =
       showable fit (honest-none fit),
     )
 
-cast-t34 : tie.Need-cast-t34
-cast-t34 c = omega (arith, c .before .before .before .before .before .before .before .before .before .before .before .before .before .before .before .before .before .before .before .before .before .show .ensures .top)
-
-cast-t35 : tie.Need-cast-t35
-cast-t35 c = omega (arith, c .before .before .before .before .before .before .before .before .before .before .before .before .before .show2 .ensures .top)
-
-cast-t36 : tie.Need-cast-t36
-cast-t36 c = omega (arith, c .before .before .before .before .show3 .ensures .top)
+judgement-requires : tie.Need-judgement-requires
+judgement-requires c κs =
+    let fit = c .before .before .before .before .before .before .before .before .before .before .before .before .before .before .before .before .before .before .before .before .before .before .before .before .before .before .before .before .before .before .before .pre .0 in
+    (fit .bounded .few, c .before .before .before .before .before .before .before .before .before .before .before .before .before .before .before .before .before .before .before .before .before .show .ensures .top, c .before .before .before .before .before .before .before .before .before .before .before .before .before .show2 .ensures .top, c .before .before .before .before .show3 .ensures .top)
 
 same-length : tie.Need-same-length
 same-length c = search needs
@@ -82,13 +78,14 @@ same-length-2 c = search needs
 
 returns : tie.Need-returns
 returns c =
-    let z = c .before .before .before .before .show3 in
-    let y = c .before .before .before .before .before .before .before .before .before .before .before .before .before .show2 in
-    let x = c .before .before .before .before .before .before .before .before .before .before .before .before .before .before .before .before .before .before .before .before .before .show in
-    let at = pivot (c .before .before .before .before .before .before .before .before .before .before .before .before .before .before .before .before .before .before .before .before .before .before .before .before .before .before) in
-    let s = c .before .before .before .before .before .before .before .before .before .before .before .before .before .before .before .before .before .before .before .before .before .before .before .before .before .before .before .before .before .before .before in
+    let z = c .before .before .before .before .before .show3 in
+    let y = c .before .before .before .before .before .before .before .before .before .before .before .before .before .before .show2 in
+    let x = c .before .before .before .before .before .before .before .before .before .before .before .before .before .before .before .before .before .before .before .before .before .before .show in
+    let at = pivot (c .before .before .before .before .before .before .before .before .before .before .before .before .before .before .before .before .before .before .before .before .before .before .before .before .before .before .before) in
+    let s = c .before .before .before .before .before .before .before .before .before .before .before .before .before .before .before .before .before .before .before .before .before .before .before .before .before .before .before .before .before .before .before .before in
     let fit = s .pre .0 in
-    runaway-answer fit at (s .pre .1) (way-in-told fit at (x .ensures)) (loops-told fit at (s .pre .1) (y .ensures)) (way-out-told fit at (z .ensures))
+    judges (c .judgement .ensures)
+    (runaway-answer fit at (s .pre .1) (way-in-told fit at (x .ensures)) (loops-told fit at (s .pre .1) (y .ensures)) (way-out-told fit at (z .ensures)))
 
 pub runaway-spec : {M : Type 1} → statement M
 runaway-spec =
@@ -99,9 +96,7 @@ runaway-spec =
     show-requires-2
     add-show
     show-requires-3
-    cast-t34
-    cast-t35
-    cast-t36
+    judgement-requires
     same-length
     same-length-2
     returns)

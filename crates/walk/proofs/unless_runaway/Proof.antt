@@ -1,6 +1,7 @@
 -- The search for two readings that part and both come to an end decides between single and steady. Assumes nothing.
+use Prim.Native.Nat.{zero-le}
 use native.Mathlib.Omega.{arith}
-use Rattle.walk.proofs.Answering.{honest, showable, single-answer, steady-answer}
+use Rattle.walk.proofs.Answering.{judges, honest, showable, single-answer, steady-answer}
 use borrow.Author.Needs.{needs}
 use Rattle.walk.proofs.unless_runaway.Statement.{statement}
 use Rattle.walk.proofs.unless_runaway.Tie as tie
@@ -11,6 +12,9 @@ show-requires c κs =
     let fit = s .pre .0 in
     (s .pre .4, omega arith, omega (arith, s .pre .3), fit .bounded .letters, showable fit (honest fit (s .pre .1)))
 
+judgement-requires : tie.Need-judgement-requires
+judgement-requires c κs = (c .before .before .before .before .before .before .before .before .before .before .before .before .before .pre .0 .bounded .few, zero-le, zero-le, zero-le)
+
 same-length : tie.Need-same-length
 same-length c = search needs
 
@@ -19,12 +23,12 @@ same-length-2 c = search needs
 
 returns : tie.Need-returns
 returns c =
-    let r = c .before .before .before .before .before .show in
-    let s = c .before .before .before .before .before .before .before .before .before .before .before .before .before in
-    single-answer (s .pre .0) (s .pre .1) (s .pre .2) (r .ensures) (omega (arith, c .if1 .taken))
+    let r = c .before .before .before .before .before .before .show in
+    let s = c .before .before .before .before .before .before .before .before .before .before .before .before .before .before in
+    judges (c .judgement .ensures) (single-answer (s .pre .0) (s .pre .1) (s .pre .2) (r .ensures) (omega (arith, c .before .if1 .taken)))
 
-cast-t15 : tie.Need-cast-t15
-cast-t15 c = omega (arith, c .before .before .before .before .before .show .ensures .top)
+judgement-requires-2 : tie.Need-judgement-requires-2
+judgement-requires-2 c κs = (c .before .before .before .before .before .before .before .before .before .before .before .before .before .pre .0 .bounded .few, c .before .before .before .before .before .show .ensures .top, zero-le, zero-le)
 
 same-length-3 : tie.Need-same-length-3
 same-length-3 c = search needs
@@ -34,19 +38,20 @@ same-length-4 c = search needs
 
 returns-2 : tie.Need-returns-2
 returns-2 c =
-    let r = c .before .before .before .before .before .show in
-    let s = c .before .before .before .before .before .before .before .before .before .before .before .before .before in
-    steady-answer (s .pre .0) (s .pre .1) (s .pre .2) (r .ensures) (omega (arith, r .ensures .top, c .if1 .left))
+    let r = c .before .before .before .before .before .before .show in
+    let s = c .before .before .before .before .before .before .before .before .before .before .before .before .before .before in
+    judges (c .judgement2 .ensures) (steady-answer (s .pre .0) (s .pre .1) (s .pre .2) (r .ensures) (omega (arith, r .ensures .top, c .before .if1 .left)))
 
 pub unless-runaway-spec : {M : Type 1} → statement M
 unless-runaway-spec =
     tie.close
     (tie.spec
     show-requires
+    judgement-requires
     same-length
     same-length-2
     returns
-    cast-t15
+    judgement-requires-2
     same-length-3
     same-length-4
     returns-2)

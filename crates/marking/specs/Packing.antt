@@ -1,0 +1,26 @@
+-- [Packed results] For C a result is one number, made of fields of bits; and the fields of such a number, as the header reads them.
+use Prim.Native.Nat.{ℕ, _+_, _*_, _/_, _%_, _^_}
+use lib.Dec.{eqb}
+use Rattle.basics.specs.Choice.{if_then_else_}
+use Rattle.marks.specs.declared.Marked.{Marked}
+use Rattle.walk.specs.declared.Vetted.{Vetted}
+
+-- as many bits of n as `width` says, from bit `from` on: a shift and a mask
+abbrev pub field : ℕ → ℕ → ℕ → ℕ
+field n from width = n / 2 ^ from % 2 ^ width
+
+-- vetting: the refusal in bits 0 to 7, the verdict in 8 to 15, p in 16 to 23, the lengths in 24 to 35, 36 to 47 and 48 to 59
+abbrev pub vetPacked : Vetted → ℕ
+vetPacked r = r .refusal + r .verdict * 2 ^ 8 + r .places * 2 ^ 16 + r .first * 2 ^ 24 + r .second * 2 ^ 36 + r .third * 2 ^ 48
+
+abbrev pub vetUnpacked : ℕ → Vetted
+vetUnpacked n =
+    record { refusal = field n 0 8; verdict = field n 8 8; places = field n 16 8; first = field n 24 12; second = field n 36 12; third = field n 48 12 }
+
+-- marking: the mark in bits 0 to 31, the refusal in 32 to 39; the count is not in the number, but stands behind a pointer where
+-- there is no refusal
+abbrev pub markPacked : Marked → ℕ
+markPacked r = r .refusal * 2 ^ 32 + r .mark
+
+abbrev pub markUnpacked : ℕ → ℕ → Marked
+markUnpacked n count = record { refusal = field n 32 8; count = if eqb (field n 32 8) 0 then count else 0; mark = field n 0 32 }
