@@ -48,6 +48,10 @@ mark-is-none b s a = Marks.mark-none (patternGraph b) s
 
 -- ---- Demand 3: "Nobody who writes an answer can give it more readings than the verdict allows."
 
+-- Single, steady and runaway are 0, 1 and 2; there is no fourth.
+pub verdict-is-low : (b : List ℕ) → patternFault b ≡ 0 → verdict (patternGraph b) ≤ 2
+verdict-is-low b a = Bounds.verdict-low (patternGraph b)
+
 -- Single: no answer has two readings, and of no other pattern is that so.
 pub single-allows-one : (b : List ℕ) → patternFault b ≡ 0 → (verdict (patternGraph b) ≡ 0) ↔ ((s : List ℕ) → allLetters s ≡ true → readings (patternGraph b) s ≤ 1)
 single-allows-one b a = Bounds.single (patternGraph b) (trim b a)

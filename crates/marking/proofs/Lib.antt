@@ -1,3 +1,4 @@
+pub mod Calls
 pub mod Demands
 pub mod Marking
 pub mod Packing

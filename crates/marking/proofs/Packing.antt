@@ -15,9 +15,8 @@ use Rattle.pattern.specs.Grammar.{isPattern, patternPart}
 use Rattle.pattern.specs.Refusals.{anyReversed, anyEmpty, patternFault}
 use Rattle.pattern.specs.Positions.{atoms, places, patternGraph}
 use Rattle.pattern.proofs.Accepted.{fault-none}
-use Rattle.verdict.specs.Verdict.{verdict}
 use Rattle.verdict.specs.Answers.{ShowsBy}
-use Rattle.verdict.proofs.Bounds.{by-verdict}
+use Rattle.verdict.proofs.Bounds.{verdict-low}
 use Rattle.marks.specs.declared.Marked.{Marked}
 use Rattle.walk.specs.declared.Vetted.{Vetted}
 use Rattle.marking.specs.Packing.{field, vetPacked, vetUnpacked, markPacked, markUnpacked}
@@ -79,9 +78,6 @@ lengths-low (suc (suc v)) g e e′ l m n few h =
     let y = h .shows .short-y in
     let z = h .shows .short-z in
     omega arith
-
-verdict-low : (g : Graph) → verdict g ≤ 2
-verdict-low g = by-verdict g (λ e d. omega arith) (λ e d. omega arith) (λ e d. omega arith)
 
 fits-by : (k : ℕ) (s e e′ w w′ : List ℕ) (r : Vetted) → k ≤ 8 → (k ≡ 0 → patternFault s ≡ 0) → VetBy k s e e′ w w′ r → Fits r
 fits-by zero s e e′ w w′ r low a h =

@@ -45,6 +45,9 @@ pub by-verdict {ℓ} : {P : Type ℓ} (g : Graph) → (verdict g ≡ 0 → ambig
 by-verdict g single steady runaway =
     by-equal (firstPivot g) 0 (λ e. by-test (ambiguous g) (λ a. steady (is-steady g e a) a) (λ a. single (is-single g e a) a)) (λ d. runaway (is-runaway g d) d)
 
+pub verdict-low : (g : Graph) → verdict g ≤ 2
+verdict-low g = by-verdict g (λ e a. omega arith) (λ e a. omega arith) (λ e d. omega arith)
+
 -- ---- what is shown
 
 -- a steady text has two readings
