@@ -1,4 +1,4 @@
--- The graph of a pattern's positions, which is all that readings and verdicts depend on: the pattern's position automaton.
+-- [States] The graph of a pattern's positions, which is all that readings and verdicts depend on: the pattern's position automaton.
 -- A state is 0, before any letter, or a position, 1 to `places`. It has no other pattern in view: any such graph will do.
 use mathlib.Core.Path.{_≡_}
 use mathlib.Core.Bool.{Bool, true, false, _&&_}
@@ -17,7 +17,7 @@ pub record Graph : Type 0 where
   pub holds : ℕ → ℕ → Bool
   pub credit : ℕ → ℕ
 
--- "numbered 1 to p"
+-- [Positions] 1 to p
 abbrev pub isPosition : Graph → ℕ → Bool
 isPosition g i = leb 1 i && leb i (g .places)
 

@@ -5,11 +5,11 @@ use Prim.Native.Nat.{ℕ, zero, suc}
 use lib.Dec.{leb}
 use Rattle.basics.specs.Choice.{if_then_else_}
 
--- "Letters are the 95 byte codes 32 to 126 (decimal)."
+-- [Letters] the 95 codes from 32 to 126
 abbrev pub isLetter : ℕ → Bool
 isLetter c = leb 32 c && leb c 126
 
--- "every text is a list of letters, of any length, empty included"
+-- [Answers] a text is a list of letters, however long, and may be empty
 abbrev pub allLetters : List ℕ → Bool
 allLetters [] = true
 allLetters (c ∷ s) = isLetter c && allLetters s
@@ -27,6 +27,6 @@ lowestFrom (suc n) c f = if f c then c else lowestFrom n (suc c) f
 abbrev pub someLetter : (ℕ → Bool) → Bool
 someLetter f = someFrom 95 32 f
 
--- the letter shown of a set: "the lowest"
+-- [Letters shown] of a set: its lowest letter
 abbrev pub lowestLetter : (ℕ → Bool) → ℕ
 lowestLetter f = lowestFrom 95 32 f

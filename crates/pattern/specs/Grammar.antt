@@ -1,4 +1,4 @@
--- The grammar, as functions that read a pattern's bytes from the left.
+-- The grammar, as functions that read a pattern's bytes from the left. A name in brackets is a rule of docs/RULES.md.
 use mathlib.Core.Bool.{Bool, true, false, _&&_, _||_, not}
 use mathlib.Core.List.{List, [], _∷_, _++_}
 use Prim.Native.Nat.{ℕ, zero, suc, _+_, _-_, _*_}
@@ -28,17 +28,18 @@ broken = record { good = false; part = letter noAtom; rest = [] }
 abbrev pub peek : List ℕ → ℕ
 peek s = getD s 0 0
 
--- "Fifteen bytes are special"
+-- [Special bytes] the fifteen that do not stand for themselves outside a class
 abbrev pub special : List ℕ
 special = codes "|*+?()[]{}^$.\\="
 
--- ---- "A class is `[`, perhaps `^`, one or more items, `]`."
+-- ---- [Classes] `[`, perhaps `^`, at least one item, `]`
 
+-- [Class letters] the five that do not stand for themselves in a class
 abbrev pub classSpecial : List ℕ
 classSpecial = codes "[]\\^-"
 
--- "A class letter is any byte but `[ ] \ ^ -`, or `\` with one of those five": its byte plus 1, or 0 where there is none, and
--- how many bytes it takes
+-- [Class letters] a byte other than the five, or `\` and one of them. Its code plus 1, or 0 where there is none; and how many
+-- bytes it takes
 abbrev pub classLetter : List ℕ → ℕ
 classLetter [] = 0
 classLetter (b ∷ s) =
@@ -57,8 +58,8 @@ pub record Items : Type 0 where
 abbrev pub itemsRead : Bool → List Item → List ℕ → Items
 itemsRead g is s = record { good = g; items = is; rest = s }
 
--- "An item is one class letter, or two with `-` between them." The items so far, and those to come up to `]`. (The first number
--- bounds how many there are.)
+-- [Classes] an item is a class letter, or a range, two with `-` between. The items so far, and those to come up to `]`. (The
+-- first number bounds how many there are.)
 abbrev pub itemsFrom : ℕ → List Item → List ℕ → Items
 itemsFrom zero is s = itemsRead false [] []
 itemsFrom (suc f) is s =
@@ -70,21 +71,23 @@ itemsFrom (suc f) is s =
     else if eqb (peek t) (code "-") then (if eqb b 0 then itemsRead false [] [] else itemsFrom f (is ++ (item (a - 1) (b - 1) ∷ [])) u)
     else itemsFrom f (is ++ (item (a - 1) (a - 1) ∷ [])) t
 
--- ---- "A lettered atom is a byte that is not special, `\` with one special byte, `.` (all 95 letters), or a class."
+-- ---- [Lettered atoms] a letter that is not special, `\` and one that is, `.`, or a class
 
--- "A credit is `=` and a digit 1 to 9, directly after a lettered atom."
+-- [Credits] `=` and one digit from 1 to 9 right after the atom, or none
 abbrev pub withCredit : Bool → List Item → List ℕ → Read
 withCredit o is s =
     let d = getD s 1 0 in
     if eqb (peek s) (code "=") then (if leb (code "1") d && leb d (code "9") then read (letter (atom o is (d - code "0"))) (drop 2 s) else broken)
     else read (letter (atom o is 0)) s
 
+-- [Classes] after the `[`
 abbrev pub readClass : List ℕ → Read
 readClass s =
     let o = eqb (peek s) (code "^") in
     let x = itemsFrom (suc (length s)) [] (if o then drop 1 s else s) in
     if x .good then withCredit o (x .items) (x .rest) else broken
 
+-- [Lettered atoms] with the credit; `.` is a class with `^` and no item, so it has all letters
 abbrev pub readLetter : List ℕ → Read
 readLetter [] = broken
 readLetter (b ∷ s) =
@@ -94,9 +97,9 @@ readLetter (b ∷ s) =
     else if isIn b special then broken
     else withCredit false (item b b ∷ []) s
 
--- ---- "A pattern is branches, a branch is pieces, a piece may hold a pattern."
+-- ---- [Patterns, branches, pieces] three functions that call each other, since a piece may be a pattern in brackets
 
--- "A piece is an atom with at most one of `*`, `+`, `?` after it."
+-- [Repeats] at most one of `?`, `*`, `+` after an atom
 abbrev pub repeated : Read → Read
 repeated a =
     let b = peek (a .rest) in
@@ -111,7 +114,7 @@ goesOn s = not (eqb (length s) 0 || (eqb (peek s) (code "|") || eqb (peek s) (co
 
 -- (The first number bounds how deep the functions call each other.)
 abbrev mutual
-  -- "Branches are one or more, parted by `|`"
+  -- [Patterns, branches, pieces] a branch, and others after `|`
   pub patternFrom : ℕ → List ℕ → Read
   patternFrom zero s = broken
   patternFrom (suc f) s =
@@ -120,7 +123,7 @@ abbrev mutual
       if a .good && eqb (peek (a .rest)) (code "|") then (if b .good then read (either (a .part) (b .part)) (b .rest) else broken)
       else a
 
-  -- "a branch has one or more pieces"
+  -- [Patterns, branches, pieces] a piece, and others up to the end, `|` or `)`
   pub branchFrom : ℕ → List ℕ → Read
   branchFrom zero s = broken
   branchFrom (suc f) s =
@@ -129,7 +132,7 @@ abbrev mutual
       if a .good && goesOn (a .rest) then (if b .good then read (joined (a .part) (b .part)) (b .rest) else broken)
       else a
 
-  -- "An atom is a lettered atom, with or without a credit, or a pattern in `( )`."
+  -- [Patterns, branches, pieces] a pattern in `( )` or a lettered atom, and perhaps a repeat
   pub pieceFrom : ℕ → List ℕ → Read
   pieceFrom zero s = broken
   pieceFrom (suc f) s =
@@ -141,7 +144,7 @@ abbrev mutual
 abbrev pub readPattern : List ℕ → Read
 readPattern s = patternFrom (suc (3 * suc (length s))) s
 
--- does the whole of it follow the grammar, and the part that it is
+-- does the whole of it follow the grammar, to its last byte, and the part that it is
 abbrev pub isPattern : List ℕ → Bool
 isPattern s = readPattern s .good && eqb (length (readPattern s .rest)) 0
 

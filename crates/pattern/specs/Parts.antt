@@ -6,7 +6,7 @@ use lib.Dec.{leb}
 use Rattle.basics.specs.Choice.{if_then_else_}
 use Rattle.letters.specs.Alphabet.{isLetter}
 
--- an item of a class: the letters from `lo` to `hi`, "both ends of a range included"
+-- [Classes] an item: the letters from `lo` to `hi`, both ends included
 pub record Item : Type 0 where
   pub lo : ℕ
   pub hi : ℕ
@@ -14,7 +14,7 @@ pub record Item : Type 0 where
 abbrev pub item : ℕ → ℕ → Item
 item a b = record { lo = a; hi = b }
 
--- a lettered atom: the letters named by its items or, with `^`, "the other letters"; "Without one the credit is 0"
+-- [Lettered atoms] the letters that the items name or, with `^`, all others; the credit, 0 where none is written
 pub record Atom : Type 0 where
   pub others : Bool
   pub items : List Item
@@ -27,11 +27,11 @@ abbrev pub inItems : ℕ → List Item → Bool
 inItems b [] = false
 inItems b (i ∷ is) = (leb (i .lo) b && leb b (i .hi)) || inItems b is
 
--- does an atom's set hold the letter b
+-- [Classes] does an atom's set hold the letter b
 abbrev pub holds : Atom → ℕ → Bool
 holds a b = isLetter b && (if a .others then not (inItems b (a .items)) else inItems b (a .items))
 
--- a repeat: `?`, `*` or `+`; may its atom be left out, may it go round
+-- [Repeats] `?`, `*` or `+`; may its atom be left out, may it go round
 pub data Repeat : Type 0 where
   optional : Repeat
   star : Repeat
@@ -47,7 +47,7 @@ loops optional = false
 loops star = true
 loops plus = true
 
--- "a lettered atom", branches, "A then B", a repeat
+-- [Patterns, branches, pieces] a lettered atom, branches (two at a time), A then B, an atom with its repeat
 pub data Part : Type 0 where
   letter : Atom → Part
   either : Part → Part → Part

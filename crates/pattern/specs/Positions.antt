@@ -8,7 +8,7 @@ use Rattle.graph.specs.Graph.{Graph}
 use Rattle.pattern.specs.Parts.{Atom, holds, skips, loops, Part, letter, either, joined, again}
 use Rattle.pattern.specs.Grammar.{noAtom, patternPart}
 
--- "Each lettered atom is a position, numbered 1 to p from the left."
+-- [Positions] the lettered atoms from the left, the first of them position 1
 abbrev pub atoms : Part → List Atom
 atoms (letter a) = a ∷ []
 atoms (either p q) = atoms p ++ atoms q
@@ -22,7 +22,7 @@ abbrev pub atomAt : Part → ℕ → Atom
 atomAt p zero = noAtom
 atomAt p (suc i) = getD (atoms p) i noAtom
 
--- can it be empty: a lettered atom is not; branches if any is; A then B if both are; `?` and `*` are, `+` only if its atom is
+-- [Empty parts] no lettered atom; branches if one can be; A then B if both can; with `?` and `*` always, with `+` as the atom
 abbrev pub canBeEmpty : Part → Bool
 canBeEmpty (letter a) = false
 canBeEmpty (either p q) = canBeEmpty p || canBeEmpty q
@@ -31,30 +31,31 @@ canBeEmpty (again k p) = skips k || canBeEmpty p
 
 -- Below, n positions stand to the left of the part, so that its own are n + 1 to n + places.
 
--- is x a first: a lettered atom "is its only first and last"; those of branches "are joined"; "firsts of A, and of B if A can be
--- empty"; a repeat's are those of its atom
+-- [Firsts] is x one: of a lettered atom itself; of branches those of all; of a joining those of A, and of B where A can be empty;
+-- of a repeat those of its atom
 abbrev pub isFirst : ℕ → Part → ℕ → Bool
 isFirst n (letter a) x = eqb x (suc n)
 isFirst n (either p q) x = isFirst n p x || isFirst (n + places p) q x
 isFirst n (joined p q) x = isFirst n p x || (canBeEmpty p && isFirst (n + places p) q x)
 isFirst n (again k p) x = isFirst n p x
 
--- is x a last: the same, but "lasts of B, and of A if B can be empty"
+-- [Lasts] is x one: the same, but of a joining those of B, and of A where B can be empty
 abbrev pub isLast : ℕ → Part → ℕ → Bool
 isLast n (letter a) x = eqb x (suc n)
 isLast n (either p q) x = isLast n p x || isLast (n + places p) q x
 isLast n (joined p q) x = isLast (n + places p) q x || (canBeEmpty q && isLast n p x)
 isLast n (again k p) x = isLast n p x
 
--- may y follow x: "each first of B may follow each last of A"; in a `*` or `+` "each first may follow each last"
+-- [Follows] may y come after x: in a joining a first of B after a last of A; with `*` and `+` a first of the atom after a last
 abbrev pub follows : ℕ → Part → ℕ → ℕ → Bool
 follows n (letter a) x y = false
 follows n (either p q) x y = follows n p x y || follows (n + places p) q x y
 follows n (joined p q) x y = follows n p x y || (follows (n + places p) q x y || (isLast n p x && isFirst (n + places p) q y))
 follows n (again k p) x y = follows n p x y || (loops k && (isLast n p x && isFirst n p y))
 
--- ---- by states: 0 before any letter, or a position
+-- ---- [States] 0 before any letter, or a position
 
+-- what may come next, and where a reading may end
 abbrev pub nextOf : Part → ℕ → ℕ → Bool
 nextOf p zero y = isFirst 0 p y
 nextOf p (suc x) y = follows 0 p (suc x) y

@@ -1,4 +1,4 @@
--- When a call declines because of its pattern, in checking order.
+-- [Refusals of a pattern] in checking order.
 use mathlib.Core.Bool.{Bool, false, _||_, not}
 use mathlib.Core.List.{List, [], _∷_}
 use Prim.Native.Nat.{ℕ}
@@ -11,7 +11,7 @@ use Rattle.pattern.specs.Parts.{Item, Atom, holds}
 use Rattle.pattern.specs.Grammar.{isPattern, patternPart}
 use Rattle.pattern.specs.Positions.{atoms, places, patternGraph}
 
--- "A range's first letter has a higher code than its last."
+-- [Refusals of a pattern] 6: a range from a higher code to a lower one
 abbrev pub someReversed : List Item → Bool
 someReversed [] = false
 someReversed (i ∷ is) = ltb (i .hi) (i .lo) || someReversed is
@@ -20,12 +20,12 @@ abbrev pub anyReversed : List Atom → Bool
 anyReversed [] = false
 anyReversed (a ∷ al) = someReversed (a .items) || anyReversed al
 
--- "A class holds no letter."
+-- [Refusals of a pattern] 7: a class without a letter
 abbrev pub anyEmpty : List Atom → Bool
 anyEmpty [] = false
 anyEmpty (a ∷ al) = not (someLetter (holds a)) || anyEmpty al
 
--- refusals 3 to 8; 0 where none applies
+-- [Refusals of a pattern] the first of 3 to 8 that applies; 0 where none does, and the pattern is accepted
 abbrev pub patternFault : List ℕ → ℕ
 patternFault s =
     if ltb 512 (length s) then 3
@@ -36,6 +36,6 @@ patternFault s =
     else if ltb 60 (places (patternPart s)) then 8
     else 0
 
--- "A pattern is accepted if no refusal from 3 to 8, in checking order, applies to it": the graph that it is built into, or none
+-- the graph that a pattern is built into: its own if it is accepted, otherwise the one without positions
 abbrev pub builtGraph : List ℕ → Graph
 builtGraph s = if eqb (patternFault s) 0 then patternGraph s else noGraph

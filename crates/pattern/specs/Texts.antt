@@ -1,4 +1,4 @@
--- A pattern's texts, as POSIX defines alternation, joining and repetition.
+-- [Texts of a pattern] what POSIX makes of alternation, joining and repetition.
 use mathlib.Core.Path.{_≡_}
 use mathlib.Core.Bool.{true}
 use mathlib.Core.List.{List, [], _∷_, _++_}
