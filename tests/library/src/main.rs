@@ -1,8 +1,9 @@
-//! Tests of the library against the rules: specimens, edges of every refusal, lent scratch, threads, and random patterns and
-//! answers against an independent model. The last line is 'N passed, M failed'. Arguments: how many random patterns, and a seed.
+//! Tests of the library against the rules: specimens, edges of every refusal, lent scratch, threads, what the pages claim, and
+//! random patterns and answers against an independent model. The last line is 'N passed, M failed'. Arguments: how many random patterns, and a seed.
 
 mod library;
 mod model;
+mod pages;
 mod posix;
 mod random;
 
@@ -279,6 +280,7 @@ fn main() {
     edges(&mut t);
     scratch(&mut t);
     threads(&mut t);
+    pages::run(&mut t);
     random_cases(&mut t, patterns, seed);
     println!("{} passed, {} failed", t.passed, t.failed);
     std::process::exit(i32::from(t.failed > 0));

@@ -1,0 +1,315 @@
+//! What the pages claim, run against the library: every row of a table that names a pattern, and a few phrases of the prose, in
+//! README.md, docs/RULES.md and docs/VERDICTS.md.
+//!
+//! A table is told by its header (`row`). A text stands in a cell as it does in a sentence, between backticks, with `× n` after it
+//! where it is written n times; several of them are joined, and `(empty)` is the empty text. A phrase is one or more texts, parted
+//! by commas and 'and', and one of the words in `phrase`. The number of claims on each page is known, so that one which is no longer
+//! understood is noticed.
+
+use crate::library::{mark, vet, Marked, Vetted};
+use crate::{model, show, Tally, EVIDENCE};
+
+/// The pages, and how many claims each makes.
+const PAGES: [(&str, u32); 3] = [("README.md", 3), ("docs/RULES.md", 85), ("docs/VERDICTS.md", 168)];
+
+/// Tables that make no claim of this kind, by their headers.
+const WORDS: [&str; 5] = [
+    "verdict, what to do",
+    "number, condition",
+    "number, condition, vet, mark",
+    "number, verdict, when, what it allows",
+    "verdict, lengths, evidence",
+];
+
+pub fn run(t: &mut Tally) {
+    for (page, claims) in PAGES {
+        let path = format!("{}/../../{page}", env!("CARGO_MANIFEST_DIR"));
+        let text = std::fs::read_to_string(&path).unwrap_or_default();
+        let before = t.passed + t.failed;
+        tables(t, page, &text);
+        prose(t, page, &text);
+        let found = (t.passed + t.failed - before) as u32;
+        t.same(found, claims, &format!("{page}: the number of claims"));
+    }
+}
+
+// ---- texts and numbers
+
+/// The text of a cell; nothing if it is not one.
+fn text(cell: &str) -> Option<Vec<u8>> {
+    if cell == "(empty)" {
+        return Some(Vec::new());
+    }
+    let mut whole = Vec::new();
+    let mut rest = cell.trim();
+    while !rest.is_empty() {
+        let (piece, after) = rest.strip_prefix('`')?.split_once('`')?;
+        // such a space is not shown
+        if piece.starts_with(' ') && piece.ends_with(' ') && !piece.trim().is_empty() {
+            return None;
+        }
+        rest = after.trim_start();
+        let mut times = 1;
+        if let Some(after) = rest.strip_prefix("× ") {
+            let digits = after.find(|c: char| !c.is_ascii_digit()).unwrap_or(after.len());
+            times = after[..digits].parse().ok()?;
+            rest = after[digits..].trim_start();
+        }
+        whole.extend(piece.as_bytes().repeat(times));
+    }
+    (!whole.is_empty()).then_some(whole)
+}
+
+/// 65,536 or 2^63 or 7.
+fn number(cell: &str) -> Option<u64> {
+    match cell.strip_prefix("2^") {
+        Some(power) => 1u64.checked_shl(power.parse().ok()?),
+        None => cell.replace(',', "").parse().ok(),
+    }
+}
+
+// ---- what the library says
+
+fn refusal(pattern: &[u8]) -> u64 {
+    match vet(pattern, EVIDENCE, 1) {
+        Ok(Vetted::Refused(k)) => u64::from(k),
+        Ok(_) => 0,
+        Err(_) => 99,
+    }
+}
+
+fn verdict(pattern: &[u8]) -> &'static str {
+    match vet(pattern, EVIDENCE, 1) {
+        Ok(Vetted::Verdict { verdict, .. }) => ["single", "steady", "runaway"][usize::from(verdict)],
+        _ => "refused",
+    }
+}
+
+fn counted(pattern: &[u8], answer: &[u8]) -> Option<(u64, u64)> {
+    match mark(pattern, answer) {
+        Ok(Marked::Answer { count, mark }) => Some((count, u64::from(mark))),
+        _ => None,
+    }
+}
+
+fn reads(pattern: &[u8], answer: &[u8]) -> bool {
+    counted(pattern, answer).is_some_and(|(count, _)| count > 0)
+}
+
+// ---- tables
+
+/// The cells of a line of a table; in a cell `\|` is `|`.
+fn cells(line: &str) -> Vec<String> {
+    let inner = line.trim().trim_start_matches('|');
+    let inner = inner.strip_suffix('|').unwrap_or(inner);
+    inner.replace("\\|", "\0").split('|').map(|c| c.trim().replace('\0', "|")).collect()
+}
+
+fn tables(t: &mut Tally, page: &str, text: &str) {
+    let mut header: Vec<String> = Vec::new();
+    for line in text.lines() {
+        if !line.starts_with('|') {
+            header.clear();
+        } else if header.is_empty() {
+            header = cells(line);
+        } else if !line.starts_with("|---") {
+            let row = Row { header: &header, cells: cells(line), name: format!("{page}: {line}") };
+            row.check(t);
+        }
+    }
+}
+
+struct Row<'a> {
+    header: &'a [String],
+    cells: Vec<String>,
+    name: String,
+}
+
+impl Row<'_> {
+    fn cell(&self, column: &str) -> Option<&str> {
+        let at = self.header.iter().position(|h| h == column)?;
+        self.cells.get(at).map(String::as_str)
+    }
+
+    /// The text of a column; a cell that is none is a failure.
+    fn text(&self, t: &mut Tally, column: &str) -> Option<Vec<u8>> {
+        let cell = self.cell(column)?;
+        let got = text(cell);
+        if got.is_none() {
+            t.check(false, || format!("{}: no text under {column}", self.name));
+        }
+        got
+    }
+
+    fn is_number(&self, t: &mut Tally, column: &str, got: u64) {
+        if let Some(cell) = self.cell(column) {
+            t.same(Some(got), number(cell), &format!("{}: {column}", self.name));
+        }
+    }
+
+    fn is_word(&self, t: &mut Tally, column: &str, got: &str) {
+        if let Some(cell) = self.cell(column) {
+            t.same(got, cell, &format!("{}: {column}", self.name));
+        }
+    }
+
+    fn check(&self, t: &mut Tally) {
+        if WORDS.contains(&self.header.join(", ").as_str()) {
+            return;
+        }
+        if let Some(pattern) = self.text(t, "pattern") {
+            if let Some(answer) = self.text(t, "answer") {
+                self.answer(t, &pattern, &answer);
+            } else {
+                self.pattern(t, &pattern);
+            }
+        } else if let Some(refused) = self.text(t, "refused") {
+            self.refused(t, &refused);
+        } else if let Some(old) = self.text(t, "instead of") {
+            self.repair(t, &old);
+        } else {
+            t.check(false, || format!("{}: a table of no known form", self.name));
+        }
+    }
+
+    /// pattern, answer, readings, and perhaps mark; a pattern under 'write' decides the answer the other way.
+    fn answer(&self, t: &mut Tally, pattern: &[u8], answer: &[u8]) {
+        let Some((count, best)) = counted(pattern, answer) else {
+            t.check(false, || format!("{}: refused", self.name));
+            return;
+        };
+        self.is_number(t, "readings", count);
+        self.is_number(t, "mark", best);
+        if self.cell("what happens").is_some() {
+            if let Some(better) = self.text(t, "write") {
+                t.check(refusal(&better) == 0 && reads(&better, answer) != (count > 0), || format!("{}: write", self.name));
+            }
+        }
+    }
+
+    /// pattern, and its refusal, or its verdict with the number of positions and the texts shown.
+    fn pattern(&self, t: &mut Tally, pattern: &[u8]) {
+        self.is_number(t, "refusal", refusal(pattern));
+        self.is_word(t, "verdict", verdict(pattern));
+        let Ok(Vetted::Verdict { places, texts, .. }) = vet(pattern, EVIDENCE, 1) else { return };
+        self.is_number(t, "positions", places as u64);
+        for (column, shown) in [("text", &texts[0]), ("x", &texts[0]), ("y", &texts[1]), ("z", &texts[2])] {
+            if let Some(want) = self.text(t, column) {
+                t.same(show(shown), show(&want), &format!("{}: {column}", self.name));
+            }
+        }
+    }
+
+    /// refused, its refusal, and what to write, which reads an answer.
+    fn refused(&self, t: &mut Tally, refused: &[u8]) {
+        self.is_number(t, "refusal", refusal(refused));
+        if let (Some(better), Some(answer)) = (self.text(t, "write"), self.text(t, "which reads")) {
+            t.check(reads(&better, &answer), || format!("{}: which reads", self.name));
+        }
+    }
+
+    /// instead of, its verdict, what to write, the verdict now, and what of both is the same.
+    fn repair(&self, t: &mut Tally, old: &[u8]) {
+        self.is_word(t, "verdict", verdict(old));
+        let Some(new) = self.text(t, "write") else { return };
+        self.is_word(t, "verdict now", verdict(&new));
+        if self.cell("the same") == Some("answers and marks") {
+            let differ = short_texts(old, &new).into_iter().find(|s| {
+                let (a, b) = (counted(old, s), counted(&new, s));
+                a.map(|(n, m)| (n > 0, m)) != b.map(|(n, m)| (n > 0, m))
+            });
+            t.check(differ.is_none(), || format!("{}: not the same on {}", self.name, show(differ.as_ref().unwrap())));
+        }
+    }
+}
+
+/// All texts up to some length over the lowest letters of the patterns' positions and one other letter.
+fn short_texts(old: &[u8], new: &[u8]) -> Vec<Vec<u8>> {
+    let mut letters = vec![b'~'];
+    for p in [old, new].into_iter().filter_map(|p| model::read(p).ok()) {
+        letters.extend(p.positions.iter().filter_map(|i| i.letters.first()));
+    }
+    letters.sort_unstable();
+    letters.dedup();
+    let mut all = vec![Vec::new()];
+    let mut from = 0;
+    while all.len() < 50_000 {
+        let longer: Vec<Vec<u8>> = all[from..].iter().flat_map(|s| letters.iter().map(move |b| [s.as_slice(), &[*b]].concat())).collect();
+        from = all.len();
+        all.extend(longer);
+    }
+    all
+}
+
+// ---- prose
+
+/// The paragraphs: neither tables nor headings nor examples that are set off, each as one line.
+fn paragraphs(text: &str) -> Vec<String> {
+    let mut all = vec![String::new()];
+    for line in text.lines() {
+        if line.is_empty() || line.starts_with(['|', '#']) || line.starts_with("    ") {
+            all.push(String::new());
+        } else {
+            let last = all.last_mut().unwrap();
+            last.push_str(line.trim());
+            last.push(' ');
+        }
+    }
+    all
+}
+
+fn prose(t: &mut Tally, page: &str, text: &str) {
+    for paragraph in paragraphs(text) {
+        // the odd ones stand between backticks
+        let parts: Vec<&str> = paragraph.split('`').collect();
+        for at in (1..parts.len()).step_by(2) {
+            let begins = at == 1 || !joins(parts[at - 1]);
+            if begins {
+                phrase(t, page, &parts, at);
+            }
+        }
+    }
+}
+
+fn joins(between: &str) -> bool {
+    [", ", " and ", " or "].contains(&between)
+}
+
+/// The texts of a list that begins at part `from`, and the part of the words after it.
+fn list<'a>(parts: &[&'a str], from: usize) -> (Vec<&'a [u8]>, usize) {
+    let mut end = from + 1;
+    while end + 1 < parts.len() && joins(parts[end]) {
+        end += 2;
+    }
+    ((from..end).step_by(2).map(|k| parts[k].as_bytes()).collect(), end)
+}
+
+/// A claim in prose: one or more texts, and words after them that say something of each.
+fn phrase(t: &mut Tally, page: &str, parts: &[&str], from: usize) {
+    let (subjects, end) = list(parts, from);
+    let words = parts.get(end).copied().unwrap_or("");
+    let objects = if end + 1 < parts.len() { list(parts, end + 1).0 } else { Vec::new() };
+    for s in subjects {
+        let name = format!("{page}: `{}`{words}", show(s));
+        if words.starts_with(" break the grammar") || words.starts_with(" breaks the grammar") {
+            t.same(refusal(s), 5, &name);
+        }
+        if words.starts_with(" is good") {
+            t.same(refusal(s), 0, &name);
+        }
+        for v in ["single", "steady", "runaway"] {
+            if words.starts_with(&format!(" is {v}")) {
+                t.same(verdict(s), v, &name);
+            }
+        }
+        for o in &objects {
+            match words {
+                " reads " => t.check(reads(s, o), || format!("{name}`{}`", show(o))),
+                " does not read " => t.check(!reads(s, o) && refusal(s) == 0, || format!("{name}`{}`", show(o))),
+                " has two readings by " => t.same(counted(o, s).map(|c| c.0), Some(2), &name),
+                " has two readings of " => t.same(counted(s, o).map(|c| c.0), Some(2), &name),
+                _ => {}
+            }
+        }
+    }
+}
