@@ -5,12 +5,16 @@
 //! where it is written n times; several of them are joined, and `(empty)` is the empty text. A phrase is one or more texts, parted
 //! by commas and 'and', and one of the words in `phrase`. The number of claims on each page is known, so that one which is no longer
 //! understood is noticed.
+//!
+//! Besides: a rule that a definition names is a heading of docs/RULES.md, and the pictures have the figures of docs/BENCHMARKS.md.
 
 use crate::library::{mark, vet, Marked, Vetted};
 use crate::{model, show, Tally, EVIDENCE};
+use std::fs;
+use std::path::{Path, PathBuf};
 
 /// The pages, and how many claims each makes.
-const PAGES: [(&str, u32); 3] = [("README.md", 3), ("docs/RULES.md", 85), ("docs/VERDICTS.md", 168)];
+const PAGES: [(&str, u32); 3] = [("README.md", 3), ("docs/RULES.md", 85), ("docs/VERDICTS.md", 170)];
 
 /// Tables that make no claim of this kind, by their headers.
 const WORDS: [&str; 5] = [
@@ -23,13 +27,60 @@ const WORDS: [&str; 5] = [
 
 pub fn run(t: &mut Tally) {
     for (page, claims) in PAGES {
-        let path = format!("{}/../../{page}", env!("CARGO_MANIFEST_DIR"));
-        let text = std::fs::read_to_string(&path).unwrap_or_default();
+        let text = file(page);
         let before = t.passed + t.failed;
         tables(t, page, &text);
         prose(t, page, &text);
         let found = (t.passed + t.failed - before) as u32;
         t.same(found, claims, &format!("{page}: the number of claims"));
+    }
+    rule_names(t);
+    figures(t, "marking");
+    figures(t, "vetting");
+}
+
+fn path(name: &str) -> PathBuf {
+    Path::new(env!("CARGO_MANIFEST_DIR")).join("../..").join(name)
+}
+
+/// A file of the repository, by its path from there; nothing where there is none.
+fn file(name: &str) -> String {
+    fs::read_to_string(path(name)).unwrap_or_default()
+}
+
+fn files_in(folder: &Path) -> Vec<PathBuf> {
+    fs::read_dir(folder).map(|all| all.flatten().map(|f| f.path()).collect()).unwrap_or_default()
+}
+
+/// The name in brackets with which a comment of a definition begins is that of a rule.
+fn rule_names(t: &mut Tally) {
+    let rules = file("docs/RULES.md");
+    let headings: Vec<&str> = rules.lines().filter_map(|l| l.strip_prefix("### ")).collect();
+    let specs = files_in(&path("crates")).into_iter().flat_map(|c| files_in(&c.join("specs")));
+    let mut found = 0;
+    for spec in specs {
+        let text = fs::read_to_string(&spec).unwrap_or_default();
+        for line in text.lines() {
+            let comment = line.trim_start().trim_start_matches(['-', ' ']);
+            let name = comment.strip_prefix('[').and_then(|c| c.split_once(']')).map_or("", |c| c.0);
+            if line.trim_start().starts_with("-- ") && name.starts_with(|c: char| c.is_ascii_uppercase()) {
+                t.check(headings.contains(&name), || format!("{}: no rule [{name}]", spec.display()));
+                found += 1;
+            }
+        }
+    }
+    t.check(found >= 30, || format!("only {found} definitions name a rule"));
+}
+
+/// Each point of a picture's data is a row of the benchmarks.
+fn figures(t: &mut Tally, name: &str) {
+    let page = file("docs/BENCHMARKS.md").replace(',', "");
+    let data = file(&format!("docs/pictures/{name}.dat"));
+    let points: Vec<&str> = data.lines().filter(|l| !l.starts_with('#')).collect();
+    t.same(points.len(), 6, &format!("{name}.dat: the number of points"));
+    for point in points {
+        let row = format!("| {} |", point.replace(' ', " | "));
+        t.check(page.lines().any(|l| l == row), || format!("{name}.dat: {point}"));
     }
 }
 
