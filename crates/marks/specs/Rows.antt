@@ -67,7 +67,7 @@ pub record Stepped (before credits : List ℕ) (from to active holds : ℕ) (cou
 
 -- ---- the answer
 
--- "the number of readings", 2 ^ 63 where it is more, and the mark
+-- [Counts] [Marks] the number of readings, 2 ^ 63 where it is that or more, and the mark
 pub record Answered (g : Graph) (s : List ℕ) (count most : ℕ) : Type 0 where
   pub counts : count ≡ min (readings g s) (2 ^ 63)
   pub marks : most ≡ mark g s

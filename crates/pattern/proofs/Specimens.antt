@@ -35,7 +35,7 @@ declines p n = record { pattern = codes p; answer = []; refusal = n; count = 0; 
 abbrev long : ℕ → String → ℕ → Row
 long k p n = record { pattern = replicate k (code ".") ++ codes p; answer = []; refusal = n; count = 0; credit = 0 }
 
--- the starred ones of the paper
+-- those with a star on the page of rules
 abbrev starred : List Row
 starred =
     accepts "(a|a)b" "ab" 2 0

@@ -11,8 +11,7 @@ use Rattle.graph.specs.Readings.{isReading}
 use Rattle.verdict.specs.Pairs.{letterShown}
 use Rattle.verdict.specs.Verdict.{firstPivot}
 
--- "Where two paths of positions run side by side, the letter shown for a step is the lowest letter that both sets hold; along one
--- path, as in x and z, the lowest of its set."
+-- [Letters shown] for two paths side by side, step by step; for one path, as in x and z, it is both
 abbrev pub shown : Graph → List ℕ → List ℕ → List ℕ
 shown g [] u = []
 shown g (a ∷ r) [] = []
@@ -23,11 +22,11 @@ abbrev pub times : ℕ → List ℕ → List ℕ
 times zero y = []
 times (suc k) y = y ++ times k y
 
--- the most letters of a steady text, and of y: "At most p² + p letters"
+-- [Steady texts] the most letters of one, and of y: p² + p
 abbrev pub longest : Graph → ℕ
 longest g = g .places * g .places + g .places
 
--- a steady verdict shows a text with two different readings
+-- [Steady texts] a text with two different readings
 pub record ShowsSteady (g : Graph) (s : List ℕ) : Type 0 where
   pub letters : allLetters s ≡ true
   pub short : length s ≤ longest g
@@ -38,7 +37,7 @@ pub record ShowsSteady (g : Graph) (s : List ℕ) : Type 0 where
   pub differ : one ≡ other → ⊥
   pub lowest : s ≡ shown g one other
 
--- a runaway verdict shows x, y, z: a way to the first pivot, two different loops there over one text, and a way to an end
+-- [Runaway texts] x, y, z: a way to the first pivot, two different loops there over one text, and a way to an end
 pub record ShowsRunaway (g : Graph) (x y z : List ℕ) : Type 0 where
   pub letters : allLetters (x ++ (y ++ z)) ≡ true
   pub some-x : 1 ≤ length x

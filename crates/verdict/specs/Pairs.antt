@@ -1,4 +1,4 @@
--- Two paths over one text, side by side: pairs of states (the product of the graph with itself).
+-- [Paths side by side] Two paths over one text: pairs of states (the product of the graph with itself).
 use mathlib.Core.Bool.{Bool, _&&_, _||_}
 use Prim.Native.Nat.{ℕ, zero, suc}
 use lib.Dec.{eqb}
@@ -13,7 +13,7 @@ pub record Pair : Type 0 where
 abbrev pub pair : ℕ → ℕ → Pair
 pair a b = record { left = a; right = b }
 
--- the letters that the sets of two positions both hold; is there one; "the lowest letter that both sets hold"
+-- the letters that the sets of two positions both hold; is there one; [Letters shown] the lowest of them
 abbrev pub bothHold : Graph → ℕ → ℕ → ℕ → Bool
 bothHold g a b c = g .holds a c && g .holds b c
 

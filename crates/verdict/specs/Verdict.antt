@@ -21,19 +21,19 @@ partsTo g u goal = somePair g (λ a b. (not (eqb a b) && reaches g (pair u u) a 
 abbrev pub ambiguous : Graph → Bool
 ambiguous g = partsTo g 0 (λ c d. g .last c && g .last d)
 
--- "a pivot: a position with two different loops back to itself over the same text"
+-- [Pivots] two paths from q part, and both come back to q after the same letters
 abbrev pub isPivot : Graph → ℕ → Bool
 isPivot g q = partsTo g q (λ c d. eqb c q && eqb d q)
 
--- the pivots "in rising order", and the first of them, 0 where there is none
+-- [Pivots] all of them in rising order, and the first, 0 where there is none
 abbrev pub pivots : Graph → List ℕ
 pivots g = listIf (λ q. isPosition g q && isPivot g q) (suc (g .places))
 
 abbrev pub firstPivot : Graph → ℕ
 firstPivot g = getD (pivots g) 0 0
 
--- "0 single, 1 steady, 2 runaway": in the field's terms unambiguous; ambiguous with at most polynomially many readings;
--- exponentially ambiguous. "A runaway pattern has a pivot."
+-- [Verdicts] 2, runaway, where there is a pivot; else 1, steady, where some answer has two readings; else 0, single. In the field's
+-- terms: exponentially ambiguous; ambiguous with at most polynomially many readings; unambiguous.
 abbrev pub verdict : Graph → ℕ
 verdict g =
     if not (eqb (firstPivot g) 0) then 2

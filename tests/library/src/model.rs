@@ -1,4 +1,4 @@
-//! The paper's rules once more, written from docs/SCOPE.md and from nothing else: patterns are parsed into a tree, positions
+//! The rules once more, written from docs/RULES.md and from nothing else: patterns are parsed into a tree, positions
 //! get their sets by plain sets of numbers, readings are enumerated one by one, and the verdict is decided by strongly
 //! connected components. Nothing here is shared with the program under test, neither code nor idea.
 
@@ -161,7 +161,7 @@ impl Parser<'_> {
     }
 }
 
-/// What the paper says of each part.
+/// What the rules say of each part.
 struct Facts {
     empty: bool,
     firsts: BTreeSet<usize>,
