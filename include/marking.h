@@ -1,22 +1,14 @@
 /*
- * Marking patterns: vet a pattern, mark an answer.
+ * Marking patterns: vet a pattern, mark an answer. For x86-64 (System V calls), in C99 or later, or C++11 or later.
  *
- * The calls are pure: they keep no state, allocate nothing, and may be made from several threads at once. They read the memory
- * they are given, and write only what is said below. Any bytes may be passed: what is wrong with them is told by a refusal number.
+ * The calls keep no state and allocate nothing, and any number of threads may make them at once. Each returns one number, which the
+ * function marking_.._unpack of the same name makes a struct. What is wrong with the bytes they are given they tell by a refusal.
  *
- *   1  the evidence has fewer than 4,096 bytes            (vet)
- *   2  the scratch has fewer than 8,192 numbers           (marking_vet_in)
- *   3  the pattern has more than 512 bytes                (vet, mark)
- *   4  a byte of the pattern is no letter                 (vet, mark)
- *   5  the pattern does not follow the grammar            (vet, mark)
- *   6  a range's first letter has a higher code than its last
- *   7  a class holds no letter
- *   8  there are more than 60 positions
- *   9  the answer has more than 4,096 bytes               (mark)
- *  10  a byte of the answer is no letter                  (mark)
- *
- * The lowest that applies is returned, and then nothing is written. The worst pattern takes 2.0 MB of stack; 3 MiB are enough for
- * each call.
+ * What a caller has to see to:
+ *   - A slice is a pointer and a length. The pointer is to that many elements; where the length is 0 it may be null.
+ *   - What a call writes (evidence, scratch, *count) overlaps with nothing else that it is given. What it only reads may overlap.
+ *   - A stack of MARKING_STACK bytes is enough for any input (measured, not proved).
+ * Memory that a call writes may hold anything before. A refused call writes nothing, and count may be any pointer then, null too.
  */
 #ifndef MARKING_H
 #define MARKING_H
@@ -28,54 +20,108 @@
 extern "C" {
 #endif
 
-/* How many bytes of evidence and numbers of scratch vet asks for. */
-#define MARKING_EVIDENCE 4096
-#define MARKING_SCRATCH 8192
+/* The version, as a number to compare (two hexadecimal digits each for major, minor, patch) and as text. */
+#define MARKING_VERSION 0x010000
+#define MARKING_VERSION_TEXT "1.0.0"
 
-/* What vet says of a pattern. */
-enum {
-    MARKING_SINGLE = 0, /* no answer has two readings */
-    MARKING_STEADY = 1, /* some have; an answer of m letters has at most (m + 2)^(2p) */
-    MARKING_RUNAWAY = 2 /* x, y, z are shown: x, k times y, z has at least 2^k readings for every k */
+/* The most that is taken. */
+#define MARKING_PATTERN_MAX 512  /* bytes of a pattern */
+#define MARKING_POSITIONS_MAX 60 /* positions of a pattern */
+#define MARKING_ANSWER_MAX 4096  /* bytes of an answer */
+
+/* The least that is asked for. */
+#define MARKING_EVIDENCE 4096           /* bytes of evidence */
+#define MARKING_SCRATCH 8192            /* numbers of scratch */
+#define MARKING_STACK (3 * 1024 * 1024) /* bytes of stack */
+
+/* The count that means 'so many or more'. Every smaller one is exact. */
+#define MARKING_COUNT_MAX (UINT64_C(1) << 63)
+
+/* Why a call declined: the lowest that applies. A letter is a byte from 32 to 126. */
+enum marking_refusal {
+    MARKING_ACCEPTED = 0,
+    MARKING_EVIDENCE_TOO_SHORT = 1, /* vet: fewer than MARKING_EVIDENCE bytes */
+    MARKING_SCRATCH_TOO_SHORT = 2,  /* marking_vet_in: fewer than MARKING_SCRATCH numbers */
+    MARKING_PATTERN_TOO_LONG = 3,   /* more than MARKING_PATTERN_MAX bytes */
+    MARKING_PATTERN_NO_LETTER = 4,  /* a byte of the pattern is no letter */
+    MARKING_PATTERN_GRAMMAR = 5,    /* the pattern does not follow the grammar */
+    MARKING_RANGE_REVERSED = 6,     /* a range's first letter has a higher code than its last */
+    MARKING_CLASS_EMPTY = 7,        /* a class holds no letter */
+    MARKING_TOO_MANY_POSITIONS = 8, /* more than MARKING_POSITIONS_MAX */
+    MARKING_ANSWER_TOO_LONG = 9,    /* mark: more than MARKING_ANSWER_MAX bytes */
+    MARKING_ANSWER_NO_LETTER = 10   /* mark: a byte of the answer is no letter */
+};
+
+/* What vet says of a pattern with p positions. */
+enum marking_verdict {
+    MARKING_SINGLE = 0,    /* no answer has two readings */
+    MARKING_STEADY = 1,    /* some have; an answer of m letters has at most (m + 2)^(2p) */
+    MARKING_RUNAWAY = 2,   /* x, then k times y, then z has at least 2^k readings, for every k */
+    MARKING_NO_VERDICT = 3 /* the pattern was refused */
 };
 
 /*
- * Vets a pattern. The result is one number:
+ * What vetting gives. The text that shows the verdict stands at the start of the evidence; beyond it the evidence keeps its old
+ * bytes. Steady: the text has two readings or more. Runaway: it is x, y and z, one after the other, so that y begins at
+ * evidence + x_len and z at evidence + x_len + y_len; x and y are never empty. Every length that does not apply is 0.
+ */
+struct marking_vetted {
+    enum marking_refusal refusal;
+    enum marking_verdict verdict;
+    unsigned positions;
+    size_t text_len;            /* steady and runaway: of the whole text */
+    size_t x_len, y_len, z_len; /* runaway: of its three parts */
+};
+
+/* What marking gives besides the count. */
+struct marking_marked {
+    enum marking_refusal refusal;
+    uint32_t mark; /* the most credit that one reading earns; 0 where there is none */
+};
+
+/*
+ * Vets a pattern. The number returned, for marking_vet_unpack:
  *   bits 0 to 7    the refusal, 0 for none (all other bits are then 0)
  *   bits 8 to 15   the verdict
- *   bits 16 to 23  the number of positions, p
- *   bits 24 to 35, 36 to 47, 48 to 59  three lengths
- * Steady: the first length is that of a text with two readings, at the start of the evidence. Runaway: the lengths of x, y and z,
- * which stand one after the other from the start of the evidence. Beyond the texts the evidence keeps its old bytes.
+ *   bits 16 to 23  the number of positions
+ *   bits 24 to 35, 36 to 47, 48 to 59  the lengths: of x, y and z, or of a steady text, 0 and 0
  */
 uint64_t marking_vet(const uint8_t *pattern, size_t pattern_len, uint8_t *evidence, size_t evidence_len);
 
-/*
- * The same in scratch that the caller lends, which may hold anything before the call and does after a verdict. marking_vet brings
- * its own, 16 KiB of stack.
- */
+/* The same in scratch that the caller lends, which after a verdict may hold anything. marking_vet brings its own, on the stack. */
 uint64_t marking_vet_in(const uint8_t *pattern, size_t pattern_len, uint8_t *evidence, size_t evidence_len, uint16_t *scratch,
                         size_t scratch_len);
 
 /*
- * Marks an answer by a pattern. The result is one number:
- *   bits 0 to 31   the mark: the most credit that one reading earns, 0 where there is none
- *   bits 32 to 39  the refusal, 0 for none (the mark is then 0, and *count is not written)
- * *count becomes the number of readings, or 2^63 where it is that or more.
+ * Marks an answer by a pattern. Without a refusal *count becomes the number of readings, MARKING_COUNT_MAX where it is that or
+ * more.
+ * The number returned, for marking_mark_unpack:
+ *   bits 0 to 31   the mark
+ *   bits 32 to 39  the refusal, 0 for none (the mark is then 0)
  */
 uint64_t marking_mark(const uint8_t *pattern, size_t pattern_len, const uint8_t *answer, size_t answer_len, uint64_t *count);
 
-/* The fields of what marking_vet returned. */
-static inline unsigned marking_vet_refusal(uint64_t r) { return (unsigned)(r & 0xff); }
-static inline unsigned marking_vet_verdict(uint64_t r) { return (unsigned)(r >> 8 & 0xff); }
-static inline unsigned marking_vet_positions(uint64_t r) { return (unsigned)(r >> 16 & 0xff); }
-static inline size_t marking_vet_first(uint64_t r) { return (size_t)(r >> 24 & 0xfff); }
-static inline size_t marking_vet_second(uint64_t r) { return (size_t)(r >> 36 & 0xfff); }
-static inline size_t marking_vet_third(uint64_t r) { return (size_t)(r >> 48 & 0xfff); }
+/* What marking_vet or marking_vet_in returned. */
+static inline struct marking_vetted marking_vet_unpack(uint64_t bits) {
+    const size_t first = (size_t)(bits >> 24 & 0xfff);
+    struct marking_vetted v;
+    v.refusal = (enum marking_refusal)(bits & 0xff);
+    v.verdict = v.refusal == MARKING_ACCEPTED ? (enum marking_verdict)(bits >> 8 & 0xff) : MARKING_NO_VERDICT;
+    v.positions = (unsigned)(bits >> 16 & 0xff);
+    v.x_len = v.verdict == MARKING_RUNAWAY ? first : 0;
+    v.y_len = (size_t)(bits >> 36 & 0xfff);
+    v.z_len = (size_t)(bits >> 48 & 0xfff);
+    v.text_len = first + v.y_len + v.z_len;
+    return v;
+}
 
-/* The fields of what marking_mark returned. */
-static inline uint32_t marking_mark_mark(uint64_t r) { return (uint32_t)(r & 0xffffffff); }
-static inline unsigned marking_mark_refusal(uint64_t r) { return (unsigned)(r >> 32 & 0xff); }
+/* What marking_mark returned. */
+static inline struct marking_marked marking_mark_unpack(uint64_t bits) {
+    struct marking_marked m;
+    m.refusal = (enum marking_refusal)(bits >> 32 & 0xff);
+    m.mark = (uint32_t)(bits & 0xffffffff);
+    return m;
+}
 
 #ifdef __cplusplus
 }

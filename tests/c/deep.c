@@ -8,31 +8,31 @@
 
 static int failed;
 
-static void refusal_is(const char *name, const uint8_t *pattern, size_t len, unsigned want) {
+static void refusal_is(const char *name, const uint8_t *pattern, size_t len, enum marking_refusal want) {
     uint8_t evidence[MARKING_EVIDENCE];
     uint64_t count = 0;
-    unsigned vet = marking_vet_refusal(marking_vet(pattern, len, evidence, sizeof evidence));
-    unsigned mark = marking_mark_refusal(marking_mark(pattern, len, (const uint8_t *)"a", 1, &count));
-    if (vet != want || mark != want) {
-        printf("%s: refusals %u and %u, want %u\n", name, vet, mark, want);
+    struct marking_vetted v = marking_vet_unpack(marking_vet(pattern, len, evidence, sizeof evidence));
+    struct marking_marked m = marking_mark_unpack(marking_mark(pattern, len, (const uint8_t *)"a", 1, &count));
+    if (v.refusal != want || m.refusal != want) {
+        printf("%s: refusals %u and %u, want %u\n", name, v.refusal, m.refusal, want);
         failed = 1;
     }
 }
 
 int main(void) {
-    uint8_t pattern[512];
+    uint8_t pattern[MARKING_PATTERN_MAX];
     memset(pattern, '(', 512);
-    refusal_is("512 times (", pattern, 512, 5);
+    refusal_is("512 times (", pattern, 512, MARKING_PATTERN_GRAMMAR);
     pattern[255] = 'a';
     memset(pattern + 256, ')', 255);
-    refusal_is("255 nested", pattern, 511, 0);
+    refusal_is("255 nested", pattern, 511, MARKING_ACCEPTED);
     memset(pattern, 'a', 512);
-    refusal_is("512 letters", pattern, 512, 8);
+    refusal_is("512 letters", pattern, 512, MARKING_TOO_MANY_POSITIONS);
     for (size_t i = 0; i < 510; i++)
         pattern[i] = (uint8_t)"(a|"[i % 3];
-    refusal_is("170 times (a|", pattern, 510, 5);
+    refusal_is("170 times (a|", pattern, 510, MARKING_PATTERN_GRAMMAR);
     for (size_t i = 0; i < 512; i++)
         pattern[i] = (uint8_t)"a("[i % 2];
-    refusal_is("256 times a(", pattern, 512, 5);
+    refusal_is("256 times a(", pattern, 512, MARKING_PATTERN_GRAMMAR);
     return failed;
 }

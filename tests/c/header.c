@@ -1,0 +1,138 @@
+/*
+ * What the header says against what the calls do: each limit on both sides, each refusal by its name, each field of what is unpacked.
+ * Good C and good C++. The last line is 'N passed, M failed', and any failure makes the exit status 1.
+ */
+#include "marking.h"
+
+#include <stdio.h>
+#include <string.h>
+
+static int passed, failed;
+
+static void check(const char *name, int right) {
+    if (right) {
+        passed++;
+    } else {
+        printf("FAILED: %s\n", name);
+        failed++;
+    }
+}
+
+static const uint8_t *bytes(const char *s) { return (const uint8_t *)s; }
+
+static uint8_t evidence[MARKING_EVIDENCE];
+static uint16_t scratch[MARKING_SCRATCH];
+
+static struct marking_vetted vet(const char *pattern) {
+    return marking_vet_unpack(marking_vet(bytes(pattern), strlen(pattern), evidence, sizeof evidence));
+}
+
+/* The pattern is refused for this reason, by vet and by mark. */
+static void refused(const char *name, const char *pattern, enum marking_refusal want) {
+    uint64_t count = 7;
+    struct marking_vetted v = vet(pattern);
+    struct marking_marked m = marking_mark_unpack(marking_mark(bytes(pattern), strlen(pattern), bytes("a"), 1, &count));
+    check(name, v.refusal == want && v.verdict == MARKING_NO_VERDICT && v.positions == 0 && v.text_len == 0);
+    check(name, m.refusal == want && m.mark == 0 && count == 7);
+}
+
+/* So many letters a. */
+static const char *letters(size_t n) {
+    static char text[MARKING_ANSWER_MAX + 2];
+    memset(text, 'a', n);
+    text[n] = 0;
+    return text;
+}
+
+/* How an answer of n letters a is marked by a pattern. */
+static struct marking_marked mark(const char *pattern, size_t n, uint64_t *count) {
+    return marking_mark_unpack(marking_mark(bytes(pattern), strlen(pattern), bytes(letters(n)), n, count));
+}
+
+static void limits(void) {
+    char class_of[MARKING_PATTERN_MAX + 2];
+    uint64_t count = 7;
+    check("evidence", marking_vet_unpack(marking_vet(bytes("a"), 1, evidence, MARKING_EVIDENCE)).refusal == MARKING_ACCEPTED);
+    check("evidence, one less",
+          marking_vet_unpack(marking_vet(bytes("a"), 1, evidence, MARKING_EVIDENCE - 1)).refusal == MARKING_EVIDENCE_TOO_SHORT);
+    check("scratch", marking_vet_unpack(marking_vet_in(bytes("a"), 1, evidence, sizeof evidence, scratch, MARKING_SCRATCH)).refusal ==
+                         MARKING_ACCEPTED);
+    check("scratch, one less",
+          marking_vet_unpack(marking_vet_in(bytes("a"), 1, evidence, sizeof evidence, scratch, MARKING_SCRATCH - 1)).refusal ==
+              MARKING_SCRATCH_TOO_SHORT);
+    memset(class_of, 'a', sizeof class_of);
+    class_of[0] = '[';
+    class_of[MARKING_PATTERN_MAX - 1] = ']';
+    class_of[MARKING_PATTERN_MAX] = 0;
+    check("the longest pattern", vet(class_of).refusal == MARKING_ACCEPTED && vet(class_of).positions == 1);
+    class_of[MARKING_PATTERN_MAX - 1] = 'a';
+    class_of[MARKING_PATTERN_MAX] = ']';
+    class_of[MARKING_PATTERN_MAX + 1] = 0;
+    refused("a byte more", class_of, MARKING_PATTERN_TOO_LONG);
+    check("the most positions", vet(letters(MARKING_POSITIONS_MAX)).positions == MARKING_POSITIONS_MAX);
+    refused("a position more", letters(MARKING_POSITIONS_MAX + 1), MARKING_TOO_MANY_POSITIONS);
+    check("the longest answer", mark("a=9*", MARKING_ANSWER_MAX, &count).mark == 9 * MARKING_ANSWER_MAX && count == 1);
+    check("a letter more", mark("a*", MARKING_ANSWER_MAX + 1, &count).refusal == MARKING_ANSWER_TOO_LONG && count == 1);
+    check("2^62 readings", mark("(a|a)*", 62, &count).refusal == MARKING_ACCEPTED && count == MARKING_COUNT_MAX / 2);
+    check("2^63 readings", mark("(a|a)*", 63, &count).refusal == MARKING_ACCEPTED && count == MARKING_COUNT_MAX);
+    check("more readings", mark("(a|a)*", 64, &count).refusal == MARKING_ACCEPTED && count == MARKING_COUNT_MAX);
+}
+
+static void refusals(void) {
+    uint64_t count = 7;
+    refused("a tab", "a\tb", MARKING_PATTERN_NO_LETTER);
+    refused("the empty pattern", "", MARKING_PATTERN_GRAMMAR);
+    refused("a closing bracket", "a)", MARKING_PATTERN_GRAMMAR);
+    refused("[z-a]", "[z-a]", MARKING_RANGE_REVERSED);
+    refused("[^ -~]", "[^ -~]", MARKING_CLASS_EMPTY);
+    check("a tab in the answer", marking_mark_unpack(marking_mark(bytes("a"), 1, bytes("\t"), 1, &count)).refusal ==
+                                         MARKING_ANSWER_NO_LETTER &&
+                                     count == 7);
+}
+
+static void verdicts(void) {
+    struct marking_vetted v = vet("colou?r");
+    check("single", v.verdict == MARKING_SINGLE && v.positions == 6 && v.text_len == 0 && v.x_len + v.y_len + v.z_len == 0);
+    v = vet("(a|a)b");
+    check("steady", v.verdict == MARKING_STEADY && v.positions == 3 && v.text_len == 2 && v.x_len + v.y_len + v.z_len == 0);
+    check("the steady text", memcmp(evidence, "ab", 2) == 0);
+    v = vet("(a|b|ab)*c");
+    check("runaway", v.verdict == MARKING_RUNAWAY && v.positions == 5 && v.text_len == v.x_len + v.y_len + v.z_len);
+    check("x, y and z", v.x_len == 1 && v.y_len == 3 && v.z_len == 1 && memcmp(evidence, "aabac", 5) == 0);
+}
+
+/* The bits that docs/C-API.md gives to each field, all set, with those of its neighbours clear. */
+static void fields(void) {
+    struct marking_vetted v = marking_vet_unpack(0xff);
+    struct marking_marked m = marking_mark_unpack(0xffffffff);
+    check("bits 0 to 7", (unsigned)v.refusal == 255 && v.verdict == MARKING_NO_VERDICT && v.positions + v.text_len == 0);
+    v = marking_vet_unpack(UINT64_C(2) << 8 | UINT64_C(0xff) << 16);
+    check("bits 8 to 23", v.refusal == MARKING_ACCEPTED && v.verdict == MARKING_RUNAWAY && v.positions == 255 && v.text_len == 0);
+    v = marking_vet_unpack(UINT64_C(2) << 8 | UINT64_C(0xfff) << 24);
+    check("bits 24 to 35, x", v.positions == 0 && v.x_len == 4095 && v.y_len + v.z_len == 0 && v.text_len == 4095);
+    v = marking_vet_unpack(UINT64_C(2) << 8 | UINT64_C(0xfff) << 36);
+    check("bits 36 to 47, y", v.y_len == 4095 && v.x_len + v.z_len == 0 && v.text_len == 4095);
+    v = marking_vet_unpack(UINT64_C(2) << 8 | UINT64_C(0xfff) << 48);
+    check("bits 48 to 59, z", v.z_len == 4095 && v.x_len + v.y_len == 0 && v.text_len == 4095);
+    v = marking_vet_unpack(UINT64_C(1) << 8 | UINT64_C(0xfff) << 24);
+    check("bits 24 to 35, a steady text", v.verdict == MARKING_STEADY && v.x_len == 0 && v.text_len == 4095);
+    check("bits 0 to 31, the mark", m.mark == 0xffffffff && m.refusal == MARKING_ACCEPTED);
+    m = marking_mark_unpack(UINT64_C(0xff) << 32);
+    check("bits 32 to 39, the mark's refusal", m.mark == 0 && (unsigned)m.refusal == 255);
+}
+
+static void version(void) {
+    char text[32];
+    sprintf(text, "%d.%d.%d", MARKING_VERSION >> 16, MARKING_VERSION >> 8 & 0xff, MARKING_VERSION & 0xff);
+    check("the version as a number and as text", strcmp(text, MARKING_VERSION_TEXT) == 0);
+}
+
+int main(void) {
+    limits();
+    refusals();
+    verdicts();
+    fields();
+    version();
+    printf("%d passed, %d failed\n", passed, failed);
+    return failed != 0;
+}
