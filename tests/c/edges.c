@@ -1,0 +1,172 @@
+/*
+ * The memory that the calls may not touch: null with length 0 for every slice, memory that cannot be written behind every refused
+ * call, null and memory that cannot even be read behind the count of a refused mark, and slices that end where memory ends. Touching
+ * it is a crash, which is told with the name of the test. The last line is 'N passed, M failed', and any failure makes the exit
+ * status 1.
+ */
+#define _DEFAULT_SOURCE /* MAP_ANONYMOUS */
+#include "marking.h"
+
+#include <signal.h>
+#include <stdio.h>
+#include <stdlib.h>
+#include <string.h>
+#include <sys/mman.h>
+#include <unistd.h>
+
+enum { PAGE = 4096, SCRATCH_BYTES = 2 * MARKING_SCRATCH };
+
+static int passed, failed;
+static const char *running = "";
+
+static void crashed(int signal_number) {
+    (void)signal_number;
+    (void)!write(STDOUT_FILENO, "FAILED: a crash: ", 17);
+    (void)!write(STDOUT_FILENO, running, strlen(running));
+    (void)!write(STDOUT_FILENO, "\n", 1);
+    _exit(1);
+}
+
+static void check(int right) {
+    if (right) {
+        passed++;
+    } else {
+        printf("FAILED: %s\n", running);
+        failed++;
+    }
+}
+
+/* Memory of so many bytes, a multiple of a page, between two pages that cannot be touched; it is filled and then protected so. */
+static void *memory(size_t bytes, int protection) {
+    uint8_t *all = mmap(NULL, bytes + 2 * PAGE, PROT_NONE, MAP_PRIVATE | MAP_ANONYMOUS, -1, 0);
+    if (all == MAP_FAILED || mprotect(all + PAGE, bytes, PROT_READ | PROT_WRITE) != 0)
+        exit(2);
+    memset(all + PAGE, 0x5a, bytes);
+    if (mprotect(all + PAGE, bytes, protection) != 0)
+        exit(2);
+    return all + PAGE;
+}
+
+/* A text of n bytes whose last byte is the last before memory that cannot be read. */
+static const uint8_t *at_the_end(const char *text, size_t n) {
+    uint8_t *page = memory(2 * PAGE, PROT_READ | PROT_WRITE);
+    memcpy(page + 2 * PAGE - n, text, n);
+    return page + 2 * PAGE - n;
+}
+
+struct refused {
+    const char *name;
+    const uint8_t *pattern;
+    size_t pattern_len;
+    const uint8_t *answer;
+    size_t answer_len;
+    enum marking_refusal want;
+};
+
+/* A count that is null, or cannot be touched, or cannot be written, or must be as before, behind every refusal that marking knows. */
+static void refused_marks(const struct refused *cases, size_t n) {
+    uint64_t *kept = memory(PAGE, PROT_READ | PROT_WRITE);
+    uint64_t *counts[] = {NULL, memory(PAGE, PROT_NONE), memory(PAGE, PROT_READ), kept};
+    for (size_t i = 0; i < n; i++)
+        for (size_t k = 0; k < 4; k++) {
+            const struct refused *c = &cases[i];
+            running = c->name;
+            struct marking_marked m =
+                marking_mark_unpack(marking_mark(c->pattern, c->pattern_len, c->answer, c->answer_len, counts[k]));
+            check(m.refusal == c->want && m.mark == 0 && *kept == UINT64_C(0x5a5a5a5a5a5a5a5a));
+        }
+}
+
+/* Evidence and scratch that cannot be touched, behind every refusal that vetting knows. */
+static void refused_vets(const struct refused *cases, size_t n) {
+    uint8_t *evidence = memory(MARKING_EVIDENCE, PROT_NONE);
+    uint16_t *scratch = memory(SCRATCH_BYTES, PROT_NONE);
+    for (size_t i = 0; i < n; i++) {
+        const uint8_t *pattern = cases[i].pattern;
+        size_t len = cases[i].pattern_len;
+        running = cases[i].name;
+        check(marking_vet(pattern, len, evidence, MARKING_EVIDENCE) == (uint64_t)cases[i].want);
+        check(marking_vet_in(pattern, len, evidence, MARKING_EVIDENCE, scratch, MARKING_SCRATCH) == (uint64_t)cases[i].want);
+        check(marking_vet_in(pattern, len, evidence, MARKING_EVIDENCE, NULL, 0) == MARKING_SCRATCH_TOO_SHORT);
+        check(marking_vet_in(pattern, len, evidence, MARKING_EVIDENCE, scratch, MARKING_SCRATCH - 1) == MARKING_SCRATCH_TOO_SHORT);
+        check(marking_vet_in(pattern, len, NULL, 0, NULL, 0) == MARKING_EVIDENCE_TOO_SHORT);
+        check(marking_vet_in(pattern, len, evidence, MARKING_EVIDENCE - 1, scratch, MARKING_SCRATCH) == MARKING_EVIDENCE_TOO_SHORT);
+        check(marking_vet(pattern, len, NULL, 0) == MARKING_EVIDENCE_TOO_SHORT);
+        check(marking_vet(pattern, len, evidence, MARKING_EVIDENCE - 1) == MARKING_EVIDENCE_TOO_SHORT);
+    }
+}
+
+/* Null with length 0: the empty pattern, the empty answer. A pointer to memory that cannot be read is the same. */
+static void empty_slices(void) {
+    const uint8_t *nothing[] = {NULL, memory(PAGE, PROT_NONE)};
+    uint8_t *evidence = memory(MARKING_EVIDENCE, PROT_READ | PROT_WRITE);
+    uint16_t *scratch = memory(SCRATCH_BYTES, PROT_READ | PROT_WRITE);
+    const uint8_t *optional = at_the_end("a?", 2);
+    for (size_t i = 0; i < 2; i++) {
+        uint64_t count = 7;
+        running = "vet, the empty pattern";
+        check(marking_vet(nothing[i], 0, evidence, MARKING_EVIDENCE) == MARKING_PATTERN_GRAMMAR);
+        check(marking_vet_in(nothing[i], 0, evidence, MARKING_EVIDENCE, scratch, MARKING_SCRATCH) == MARKING_PATTERN_GRAMMAR);
+        running = "mark, the empty pattern";
+        check(marking_mark_unpack(marking_mark(nothing[i], 0, nothing[i], 0, NULL)).refusal == MARKING_PATTERN_GRAMMAR);
+        running = "mark, the empty answer, one reading";
+        check(marking_mark(optional, 2, nothing[i], 0, &count) == 0 && count == 1);
+        running = "mark, the empty answer, no reading";
+        check(marking_mark(optional, 1, nothing[i], 0, &count) == 0 && count == 0);
+    }
+}
+
+/* Memory that ends where the slice ends: what is beyond is neither read nor written. */
+static void whole_slices(void) {
+    const char *runaway = "(a|b|ab)*c";
+    const uint8_t *pattern = at_the_end(runaway, strlen(runaway));
+    const uint8_t *answer = at_the_end("abababc", 7);
+    uint8_t *evidence = memory(MARKING_EVIDENCE, PROT_READ | PROT_WRITE);
+    uint16_t *scratch = memory(SCRATCH_BYTES, PROT_READ | PROT_WRITE);
+    uint64_t *count = memory(PAGE, PROT_READ | PROT_WRITE);
+    char widest[2 * MARKING_POSITIONS_MAX];
+    count += PAGE / sizeof *count - 1;
+    running = "vet, slices at the end of memory";
+    check(marking_vet_unpack(marking_vet(pattern, strlen(runaway), evidence, MARKING_EVIDENCE)).verdict == MARKING_RUNAWAY);
+    running = "vet_in, slices at the end of memory";
+    check(marking_vet_unpack(marking_vet_in(pattern, strlen(runaway), evidence, MARKING_EVIDENCE, scratch, MARKING_SCRATCH)).verdict ==
+          MARKING_RUNAWAY);
+    running = "vet_in, the widest search";
+    for (size_t i = 0; i < sizeof widest; i++)
+        widest[i] = "a?"[i % 2];
+    pattern = at_the_end(widest, sizeof widest);
+    check(marking_vet_unpack(marking_vet_in(pattern, sizeof widest, evidence, MARKING_EVIDENCE, scratch, MARKING_SCRATCH)).verdict ==
+          MARKING_STEADY);
+    running = "mark, slices at the end of memory";
+    pattern = at_the_end(runaway, strlen(runaway));
+    check(marking_mark(pattern, strlen(runaway), answer, 7, count) == 0 && *count == 8);
+    running = "mark, one text as pattern and as answer";
+    pattern = at_the_end("abc", 3);
+    check(marking_mark(pattern, 3, pattern, 3, count) == 0 && *count == 1);
+}
+
+int main(void) {
+    static char long_text[MARKING_ANSWER_MAX + 1];
+    memset(long_text, 'a', sizeof long_text);
+    const uint8_t *many = at_the_end(long_text, sizeof long_text);
+    const uint8_t *a = at_the_end("a", 1);
+    const struct refused cases[] = {
+        {"refusal 3", many, MARKING_PATTERN_MAX + 1, NULL, 0, MARKING_PATTERN_TOO_LONG},
+        {"refusal 4", at_the_end("a\t", 2), 2, a, 1, MARKING_PATTERN_NO_LETTER},
+        {"refusal 5", at_the_end("(a", 2), 2, a, 1, MARKING_PATTERN_GRAMMAR},
+        {"refusal 6", at_the_end("[z-a]", 5), 5, a, 1, MARKING_RANGE_REVERSED},
+        {"refusal 7", at_the_end("[^ -~]", 6), 6, NULL, 0, MARKING_CLASS_EMPTY},
+        {"refusal 8", many, MARKING_POSITIONS_MAX + 1, a, 1, MARKING_TOO_MANY_POSITIONS},
+        {"refusal 9", a, 1, many, MARKING_ANSWER_MAX + 1, MARKING_ANSWER_TOO_LONG},
+        {"refusal 10", a, 1, at_the_end("a\t", 2), 2, MARKING_ANSWER_NO_LETTER},
+    };
+    setvbuf(stdout, NULL, _IONBF, 0);
+    signal(SIGSEGV, crashed);
+    signal(SIGBUS, crashed);
+    empty_slices();
+    whole_slices();
+    refused_vets(cases, 6); /* the last two are of answers */
+    refused_marks(cases, 8);
+    printf("%d passed, %d failed\n", passed, failed);
+    return failed != 0;
+}
