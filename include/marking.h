@@ -7,7 +7,7 @@
  * What a caller has to see to:
  *   - A slice is a pointer and a length. The pointer is to that many elements; where the length is 0 it may be null.
  *   - What a call writes (evidence, scratch, *count) overlaps with nothing else that it is given. What it only reads may overlap.
- *   - A stack of MARKING_STACK bytes is enough for any input (measured, not proved).
+ *   - There is stack for the call: MARKING_STACK bytes are enough for any input (measured, not proved).
  * Memory that a call writes may hold anything before. A refused call writes nothing, and count may be any pointer then, null too.
  */
 #ifndef MARKING_H
