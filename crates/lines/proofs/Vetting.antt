@@ -31,11 +31,11 @@ module _ (s e e′ w w′ : List ℕ) (r : Vetted) (says : VetSays s e e′ w w�
   fault : faultOf ≡ patternFault s
   fault = by-pattern s (length e) (length w) long wide
 
-  -- "or `refused` and the number"
+  -- the refusal is the pattern's
   refusal : r .refusal ≡ patternFault s
   refusal = by-fault faultOf s e e′ w w′ r says .0 ∙ fault
 
-  -- "`single`, `steady` or `runaway` and p"
+  -- and where there is none, so are the verdict and the number of positions
   judgement : r .refusal ≡ 0 → (r .verdict ≡ verdict (patternGraph s)) × (r .places ≡ places (patternPart s))
   judgement z = by-fault faultOf s e e′ w w′ r says .1 (sym (by-fault faultOf s e e′ w w′ r says .0) ∙ z)
 

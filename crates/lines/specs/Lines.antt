@@ -1,4 +1,5 @@
--- What the program `vet` writes: a line for each pattern of its input.
+-- What the program `vet` writes, a line for each pattern of its input, and what the functions that make it promise.
+-- A name in square brackets is that of the rule that a definition renders.
 use mathlib.Core.Path.{_≡_}
 use mathlib.Core.List.{List, [], _∷_, _++_}
 use Prim.Native.Nat.{ℕ, zero, suc, _+_, _-_, _/_, _%_, _≤_, _<_}
@@ -11,7 +12,7 @@ use Rattle.pattern.specs.Grammar.{patternPart}
 use Rattle.pattern.specs.Positions.{places, patternGraph}
 use Rattle.pattern.specs.Refusals.{patternFault}
 use Rattle.verdict.specs.Verdict.{verdict}
-use Rattle.lines.specs.declared.Line.{Line}
+use Rattle.lines.specs.declared.Run.{Run}
 
 -- ---- the fields of a line
 
@@ -23,7 +24,7 @@ digitsBelow (suc k) n = if ltb n 10 then (48 + n) ∷ [] else digitsBelow k (n /
 unfoldable pub decimal : ℕ → List ℕ
 decimal n = digitsBelow (suc n) n
 
--- the word of a verdict: "0 single, 1 steady, 2 runaway"
+-- [Verdicts] the word of a verdict: 0 is single, 1 steady, 2 runaway
 abbrev pub word : ℕ → List ℕ
 word zero = codes "single"
 word (suc zero) = codes "steady"
@@ -34,22 +35,22 @@ newline = 10 ∷ []
 
 -- ---- a line
 
--- "one space between fields, byte 10 after each line": the line number n, a word and a number k
+-- [Output lines] the line number n, a word w and a number k, with a space between them and byte 10 after them
 abbrev pub fields : ℕ → List ℕ → ℕ → List ℕ
 fields n w k = decimal n ++ (codes " " ++ (w ++ (codes " " ++ (decimal k ++ newline))))
 
--- the line for the pattern s: the line number, "then `single`, `steady` or `runaway` and p, or `refused` and the number"
+-- [Output lines] the line for the pattern s: the verdict's word and the number of positions, or `refused` and the refusal's number
 unfoldable pub lineOf : ℕ → List ℕ → List ℕ
 lineOf n s = if eqb (patternFault s) 0 then fields n (word (verdict (patternGraph s))) (places (patternPart s)) else fields n (codes "refused") (patternFault s)
 
 -- ---- the input's patterns
 
--- "a last one without it counts if not empty"
+-- [Input lines] a last pattern that no byte 10 ends counts if it is not empty
 abbrev pub lastPattern : List ℕ → List (List ℕ)
 lastPattern [] = []
 lastPattern (b ∷ p) = (b ∷ p) ∷ []
 
--- "each ended by byte 10"; p are the bytes of the pattern so far
+-- [Input lines] byte 10 ends a pattern; p are the bytes of the pattern so far
 unfoldable pub patternsFrom : List ℕ → List ℕ → List (List ℕ)
 patternsFrom p [] = lastPattern p
 patternsFrom p (b ∷ s) = if eqb b 10 then p ∷ patternsFrom [] s else patternsFrom (p ++ (b ∷ [])) s
@@ -59,15 +60,16 @@ patternsOf s = patternsFrom [] s
 
 -- ---- the output
 
--- the lines of patterns, numbered from n
+-- [Output lines] a line for each pattern, in their order, numbered from n
 unfoldable pub linesFrom : ℕ → List (List ℕ) → List ℕ
 linesFrom n [] = []
 linesFrom n (s ∷ ss) = lineOf n s ++ linesFrom (suc n) ss
 
--- "Input over 65,536 bytes gives only the line `input too long`."
+-- [Too long] the line for an input of more than 65,536 bytes
 abbrev pub tooLong : List ℕ
 tooLong = codes "input too long" ++ newline
 
+-- [Too long] such an input has that line only; any other has the lines of all its patterns, numbered from 1
 abbrev pub outputOf : List ℕ → List ℕ
 outputOf s = if ltb 65536 (length s) then tooLong else linesFrom 1 (patternsOf s)
 
@@ -84,31 +86,40 @@ pub record EndsAt (s : List ℕ) (a r : ℕ) : Type 0 where
   pub inside : r ≤ length s
   pub cuts : patternsOf (drop a s) ≡ take (r - a) (drop a s) ∷ patternsOf (drop (r + 1) s)
 
--- the line numbered n of the input's first pattern from byte a on is put at the slice's start; the other patterns begin at r .rest,
--- after the pattern and the byte 10 that ends it
-pub record OneLine (s : List ℕ) (a n : ℕ) (old new : List ℕ) (r : Line) : Type 0 where
-  pub pattern : List ℕ
-  pub cuts : patternsOf (drop a s) ≡ pattern ∷ patternsOf (drop (r .rest) s)
-  pub puts : Puts (lineOf n pattern) old 0 new (r .len)
-  pub short : r .len ≤ 18
-  pub after : r .rest ≡ a + length pattern + 1
-  pub inside : r .rest ≤ length s + 1
+-- a run before its first line
+abbrev pub start : Run
+start = record { from = 0; number = 1; len = 0 }
 
--- nothing is put
-pub record NoLine (a : ℕ) (old new : List ℕ) (r : Line) : Type 0 where
+-- a run has a line to put: it is not over, its number has at most five digits, and a line of that number fits into so many bytes
+abbrev pub HasLine : List ℕ → Run → ℕ → Type 0
+HasLine s run room = (run .from < length s) × (run .number < 100000) × (18 ≤ room)
+
+-- the line of the input's first pattern from the run's byte on is put at the slice's start; the run goes on after that pattern
+-- and the byte 10 that ends it, with the next number
+pub record PatternLine (s : List ℕ) (run : Run) (old new : List ℕ) (r : Run) : Type 0 where
+  pub pattern : List ℕ
+  pub cuts : patternsOf (drop (run .from) s) ≡ pattern ∷ patternsOf (drop (r .from) s)
+  pub puts : Puts (lineOf (run .number) pattern) old 0 new (r .len)
+  pub short : r .len ≤ 18
+  pub after : r .from ≡ run .from + length pattern + 1
+  pub inside : r .from ≤ length s + 1
+  pub counts : r .number ≡ run .number + 1
+
+-- the line for an input that is too long is put at the slice's start, and the run is over
+pub record OnlyLine (s : List ℕ) (run : Run) (old new : List ℕ) (r : Run) : Type 0 where
+  pub puts : Puts tooLong old 0 new (r .len)
+  pub over : r .from ≡ length s
+  pub counts : r .number ≡ run .number + 1
+
+-- nothing is put, and the run stays where it is
+pub record NoLine (run : Run) (old new : List ℕ) (r : Run) : Type 0 where
   pub nothing : r .len ≡ 0
-  pub stays : r .rest ≡ a
+  pub stays : r .from ≡ run .from
+  pub counts : r .number ≡ run .number
   pub kept : new ≡ old
 
--- there is a pattern, its number has at most five digits, and a line of that number fits into a slice of so many bytes
-abbrev pub HasLine : List ℕ → ℕ → ℕ → ℕ → Type 0
-HasLine s a n room = (a < length s) × (n < 100000) × (18 ≤ room)
-
 -- for all input: the next line, or nothing where there is none to put
-pub record NextLine (s : List ℕ) (a n : ℕ) (old new : List ℕ) (r : Line) : Type 0 where
-  pub line : HasLine s a n (length old) → OneLine s a n old new r
-  pub none : (HasLine s a n (length old) → ⊥) → NoLine a old new r
-
--- the line for an input that is too long, made in a slice of so many bytes; in one of fewer than 15 nothing is made
-abbrev pub tooLongIn : ℕ → List ℕ
-tooLongIn room = if ltb room 15 then [] else tooLong
+pub record NextLine (s : List ℕ) (run : Run) (old new : List ℕ) (r : Run) : Type 0 where
+  pub line : HasLine s run (length old) → length s ≤ 65536 → PatternLine s run old new r
+  pub only : HasLine s run (length old) → 65536 < length s → OnlyLine s run old new r
+  pub none : (HasLine s run (length old) → ⊥) → NoLine run old new r

@@ -1,10 +1,12 @@
-// What the program `vet` writes, made in a slice: `next_line` makes a line, `too_long` the only line for an input that is too long.
-// The functions that put a text into a slice put it from byte `at` on, and give the place after it.
+// What the program `vet` writes, line by line: a run through an input starts with `begin`, and each call of `next_line` puts a line.
+// No public function has a `requires`. That all lines together are the output is `run-is-output` of proofs/Written.antt.
+// The functions `put..` put a text into a slice from byte `at` on, and give the place after it.
+ghost use mathlib.Core.Path.{_≡_};
 ghost use mathlib.Core.List.{[], _∷_, _++_};
 ghost use Prim.Native.Nat.{_+_, _≤_, _<_};
 ghost use lib.ListN.{length};
 ghost use Rattle.io.specs.Counts.{Counts};
-ghost use Rattle.lines.specs.Lines.{decimal, fields, lineOf, tooLongIn, Puts, EndsAt, NextLine};
+ghost use Rattle.lines.specs.Lines.{decimal, fields, lineOf, Puts, EndsAt, start, HasLine, PatternLine, NextLine};
 
 // A text, and the byte `end` after it.
 fn put(text: &[u8], end: u8, out: &mut [u8], at: usize) -> usize
@@ -82,26 +84,33 @@ fn pattern_end(input: &[u8], from: usize) -> usize
     i
 }
 
-// The next line, and where the rest of the input begins.
-pub struct Line {
+// Where a run through an input stands: the byte from which and the number with which it goes on, and the length of the line that
+// it has just put.
+pub struct Run {
+    pub from: usize,
+    pub number: u64,
     pub len: usize,
-    pub rest: usize,
 }
 
-// The line numbered `number`, of the pattern that begins at byte `from` of the input, put at the start of `out`. Nothing is put
-// where no pattern begins there, where the number has more than five digits, or where `out` has fewer than 18 bytes.
-pub fn next_line(input: &[u8], from: usize, number: u64, out: &mut [u8]) -> Line
-    ensures { λ r. ⌜ NextLine (now (input .entry)) from number (now (out .entry)) (now (out .exit)) r ⌝ }
+// A run before its first line: at the input's first byte, with number 1, and nothing is put.
+pub fn begin() -> Run
+    ensures { λ r. ⌜ r ≡ start ⌝ }
 {
-    if from >= input.len() {
-        return Line { len: 0, rest: from };
+    Run {
+        from: 0,
+        number: 1,
+        len: 0,
     }
-    if number >= 100000 {
-        return Line { len: 0, rest: from };
-    }
-    if out.len() < 18 {
-        return Line { len: 0, rest: from };
-    }
+}
+
+// The line of the pattern at which the run stands, put at the start of `out`, and where the run then stands: after that pattern and
+// the byte 10 that ends it, with the next number.
+fn pattern_line(input: &[u8], run: Run, out: &mut [u8]) -> Run
+    requires { ⌜ HasLine (now input) run (length (now out)) ⌝ }
+    ensures { λ r. ⌜ PatternLine (now (input .entry)) run (now (out .entry)) (now (out .exit)) r ⌝ }
+{
+    let from = run.from;
+    let number = run.number;
     let mut evidence = [0u8; 4096];
     let mut scratch = [0u16; 8192];
     let end = pattern_end(input, from);
@@ -113,20 +122,44 @@ pub fn next_line(input: &[u8], from: usize, number: u64, out: &mut [u8]) -> Line
         out,
         0,
     );
-    Line {
+    let rest = end + 1;
+    let next = number + 1;
+    Run {
+        from: rest,
+        number: next,
         len: len,
-        rest: end + 1,
     }
 }
 
-// The only line for an input that is too long, put at the start of `out`, and how many bytes that is. Into fewer than 15 bytes
-// nothing is put.
-pub fn too_long(out: &mut [u8]) -> usize
-    ensures { λ r. ⌜ Counts r (now (out .exit)) ⌝ }
-    ensures { λ r. ⌜ Puts (tooLongIn (length (now (out .entry)))) (now (out .entry)) 0 (now (out .exit)) r ⌝ }
+// The next line of a run, put at the start of `out`, and where the run then stands. The run is over at the input's end or past it.
+// An input of more than 65,536 bytes has one line, `input too long`, and the run is then over. Nothing is put, the length is 0 and
+// the run stays where it is if it is over, if its number has more than five digits, or if `out` has fewer than 18 bytes.
+pub fn next_line(input: &[u8], run: Run, out: &mut [u8]) -> Run
+    ensures { λ r. ⌜ Counts (r .len) (now (out .exit)) ⌝ }
+    ensures { λ r. ⌜ NextLine (now (input .entry)) run (now (out .entry)) (now (out .exit)) r ⌝ }
 {
-    if out.len() < 15 {
-        return 0;
+    let stay = Run {
+        from: run.from,
+        number: run.number,
+        len: 0,
+    };
+    if run.from >= input.len() {
+        return stay;
     }
-    put(b"input too long", b'\n', out, 0)
+    if run.number >= 100000 {
+        return stay;
+    }
+    if out.len() < 18 {
+        return stay;
+    }
+    if input.len() > 65536 {
+        let len = put(b"input too long", b'\n', out, 0);
+        let next = run.number + 1;
+        return Run {
+            from: input.len(),
+            number: next,
+            len: len,
+        };
+    }
+    pattern_line(input, run, out)
 }
