@@ -1,8 +1,7 @@
 -- The line of a pattern by what vetting it gave. Assumes nothing.
 use mathlib.Core.Path.{_≡_, sym, ap, _∙_, subst}
 use mathlib.Core.List.{List}
-use Prim.Native.Nat.{ℕ, zero, suc, _≤_}
-use native.Mathlib.Omega.{arith}
+use Prim.Native.Nat.{ℕ, _≤_}
 use lib.Dec.{eqb}
 use lib.ListN.{length}
 use borrow.Author.Tests.{eq-eqb, ne-eqb}
@@ -12,32 +11,20 @@ use Rattle.pattern.specs.Grammar.{patternPart}
 use Rattle.pattern.specs.Positions.{places, patternGraph}
 use Rattle.pattern.specs.Refusals.{patternFault}
 use Rattle.verdict.specs.Verdict.{verdict}
-use Rattle.marking.specs.Vetting.{vetFault, VetBy, VetSays}
-use Rattle.marking.specs.declared.Vetted.{Vetted}
-use Rattle.marking.proofs.Vetting.{by-pattern}
+use Rattle.walk.specs.declared.Vetted.{Vetted}
+use Rattle.marking.specs.Vetting.{VetSays}
+use Rattle.marking.proofs.Vetting.{by-pattern, refusal-is, answered}
 use Rattle.lines.specs.Lines.{word, fields, lineOf, Puts}
-
--- the refusal is the number by which vetting goes, and where there is none the verdict and p are the pattern's
-by-fault : (k : ℕ) (s e e′ w w′ : List ℕ) (r : Vetted) → VetBy k s e e′ w w′ r
-    → (r .refusal ≡ k) × (k ≡ 0 → (r .verdict ≡ verdict (patternGraph s)) × (r .places ≡ places (patternPart s)))
-by-fault zero s e e′ w w′ r h = (h .refusal, λ z. (h .vets .verdict-is, h .places))
-by-fault (suc k) s e e′ w w′ r h = (ap (λ (v : Vetted). v .refusal) (h .result), λ z. absurd (omega arith))
 
 -- `vet_pattern` gave r of the pattern s, with evidence and scratch that are large enough; the line has the number n
 module _ (s e e′ w w′ : List ℕ) (r : Vetted) (says : VetSays s e e′ w w′ r) (long : 4096 ≤ length e) (wide : 8192 ≤ length w) (n : ℕ) where
-  abbrev faultOf : ℕ
-  faultOf = vetFault s (length e) (length w)
-
-  fault : faultOf ≡ patternFault s
-  fault = by-pattern s (length e) (length w) long wide
-
   -- the refusal is the pattern's
   refusal : r .refusal ≡ patternFault s
-  refusal = by-fault faultOf s e e′ w w′ r says .0 ∙ fault
+  refusal = refusal-is s e e′ w w′ r says ∙ by-pattern s (length e) (length w) long wide
 
   -- and where there is none, so are the verdict and the number of positions
   judgement : r .refusal ≡ 0 → (r .verdict ≡ verdict (patternGraph s)) × (r .places ≡ places (patternPart s))
-  judgement z = by-fault faultOf s e e′ w w′ r says .1 (sym (by-fault faultOf s e e′ w w′ r says .0) ∙ z)
+  judgement z = let j = answered s e e′ w w′ r says z .judged in (j .vets .verdict-is, j .places)
 
   -- the two lines that a pattern can have
   abbrev accepted : List ℕ
