@@ -24,12 +24,12 @@ use Rattle.verdict.specs.Evidence.{times, ShowsSteady, ShowsRunaway}
 use Rattle.verdict.specs.Answers.{Begins, ShowsBy}
 use Rattle.marks.specs.declared.Marked.{Marked}
 use Rattle.walk.specs.declared.Vetted.{Vetted}
-use Rattle.marking.specs.Packing.{vetUnpacked, markUnpacked}
+use Rattle.marking.specs.Packing.{field, vetUnpacked, markUnpacked}
 use Rattle.marking.specs.Marking.{markFault, MarkSays, MarkForC}
 use Rattle.marking.specs.Vetting.{vetFault, refused, VetSays, VetForC, VetAlone}
 use Rattle.marking.proofs.Demands as Demands
 use Rattle.marking.proofs.Marking as Marking
-use Rattle.marking.proofs.Packing.{vet-unpacks, mark-unpacks}
+use Rattle.marking.proofs.Packing.{vet-fields, vet-unpacks, mark-fields, mark-unpacks}
 use Rattle.marking.proofs.Vetting as Vetting
 
 -- ==== What is said of marking the answer s
@@ -68,7 +68,7 @@ pub record SteadyText (b e e′ : List ℕ) (r : Vetted) : Type 0 where
   pub shows : ShowsSteady (patternGraph b) text
   pub two-readings : 2 ≤ readings (patternGraph b) text
 
--- Called runaway, x, y and z stand there one after the other: letters, at most p of x and of z, 1 to p² + p of y. x leads to the first
+-- Called runaway, x, y and z stand there one after the other: letters, 1 to p of x, 1 to p² + p of y, at most p of z. x leads to the first
 -- pivot, y is two different loops there, z leads to an end, and the letters are those to be shown (`ShowsRunaway`). x yᵏ z has at
 -- least 2ᵏ readings for every k.
 pub record RunawayTexts (b e e′ : List ℕ) (r : Vetted) : Type 0 where
@@ -76,6 +76,7 @@ pub record RunawayTexts (b e e′ : List ℕ) (r : Vetted) : Type 0 where
   pub y : List ℕ
   pub z : List ℕ
   pub letters : allLetters (x ++ (y ++ z)) ≡ true
+  pub some-x : 1 ≤ length x
   pub short-x : length x ≤ r .places
   pub some-y : 1 ≤ length y
   pub short-y : length y ≤ r .places * r .places + r .places
@@ -150,6 +151,10 @@ module _ (b s : List ℕ) (r : Marked) (says : MarkSays b s r) where
     true-mark = true-mark;
   }
 
+-- For C: the header's shifts and masks give back what was packed.
+pub mark-fields-again : (b s : List ℕ) (old new n : ℕ) (h : MarkForC b s old new n) → (field n 32 8 ≡ h .marked .refusal) × (field n 0 32 ≡ h .marked .mark)
+mark-fields-again b s old new n h = mark-fields b s old new n h
+
 -- `marking_mark` gave n, and behind the pointer stood `old` before and stands `new` after: the header's fields of n, with `new` for
 -- the count, keep all of it,
 pub marking-mark-keeps : (b s : List ℕ) (old new n : ℕ) → MarkForC b s old new n → MarkKeeps b s (markUnpacked n new)
@@ -197,6 +202,7 @@ module _ (b e e′ w w′ : List ℕ) (r : Vetted) (says : VetSays b e e′ w w�
               y = t .y;
               z = t .z;
               letters = t .shows .letters;
+              some-x = t .shows .some-x;
               short-x = subst (λ (n : ℕ). length (t .x) ≤ n) p (t .shows .short-x);
               some-y = t .shows .some-y;
               short-y = subst (λ (n : ℕ). length (t .y) ≤ n * n + n) p (t .shows .short-y);
@@ -220,6 +226,10 @@ module _ (b e e′ w w′ : List ℕ) (r : Vetted) (says : VetSays b e e′ w w�
     accepted-gets-verdict = λ a l k. Vetting.refusal-is b e e′ w w′ r says ∙ Vetting.by-pattern b (length e) (length w) l k ∙ a;
     true-verdict = true-verdict;
   }
+
+-- For C: the header's shifts and masks give back what was packed.
+pub vet-fields-again : (b e e′ w w′ : List ℕ) (n : ℕ) (h : VetForC b e e′ w w′ n) → vetUnpacked n ≡ h .vetted
+vet-fields-again b e e′ w w′ n h = vet-fields b e e′ w w′ n h
 
 -- `marking_vet_in` gave n: the header's fields of n keep all of it.
 pub marking-vet-in-keeps : (b e e′ w w′ : List ℕ) (n : ℕ) → VetForC b e e′ w w′ n → VetKeeps b e e′ w w′ (vetUnpacked n)

@@ -120,10 +120,11 @@ vet-again r f =
     let s = same-fields r f in
     λ i. record { refusal = s .0 i; verdict = s .1 i; places = s .2 i; first = s .3 i; second = s .4 i; third = s .5 i }
 
+pub vet-fields : (s e e′ w w′ : List ℕ) (n : ℕ) (h : VetForC s e e′ w w′ n) → vetUnpacked n ≡ h .vetted
+vet-fields s e e′ w w′ n h = ap vetUnpacked (h .packing) ∙ vet-again (h .vetted) (fits s e e′ w w′ (h .vetted) (h .says))
+
 pub vet-unpacks : (s e e′ w w′ : List ℕ) (n : ℕ) → VetForC s e e′ w w′ n → VetSays s e e′ w w′ (vetUnpacked n)
-vet-unpacks s e e′ w w′ n h =
-    let r = h .vetted in
-    subst (VetSays s e e′ w w′) (sym (ap vetUnpacked (h .packing) ∙ vet-again r (fits s e e′ w w′ r (h .says)))) (h .says)
+vet-unpacks s e e′ w w′ n h = subst (VetSays s e e′ w w′) (sym (vet-fields s e e′ w w′ n h)) (h .says)
 
 -- ---- marking
 
@@ -134,17 +135,21 @@ count-read s a old =
     (λ y. sym (if-yes (countAfter s a old) 0 (eqb (markFault s a) 0) y ∙ if-yes (countShown s a) old (eqb (markFault s a) 0) y))
     (λ n. if-no _ 0 (eqb (markFault s a) 0) n ∙ sym (if-no (countAfter s a old) 0 (eqb (markFault s a) 0) n))
 
+-- packed and unpacked again
+mark-again : (r : Marked) → r .refusal ≤ 10 → r .mark < 2 ^ 32 → (field (markPacked r) 32 8 ≡ r .refusal) × (field (markPacked r) 0 32 ≡ r .mark)
+mark-again r low small = omega arith
+
+pub mark-fields : (s a : List ℕ) (old new n : ℕ) (h : MarkForC s a old new n) → (field n 32 8 ≡ h .marked .refusal) × (field n 0 32 ≡ h .marked .mark)
+mark-fields s a old new n h =
+    subst (λ (k : ℕ). (field k 32 8 ≡ h .marked .refusal) × (field k 0 32 ≡ h .marked .mark)) (sym (h .packing))
+    (mark-again (h .marked) (omega (arith, h .says .refusal, mark-low s a)) (h .small))
+
 pub mark-unpacks : (s a : List ℕ) (old new n : ℕ) → MarkForC s a old new n → MarkSays s a (markUnpacked n new)
 mark-unpacks s a old new n h =
-    let r = h .marked in
-    let low = mark-low s a in
-    let is = h .says .refusal in
-    let small = h .small in
-    let packing = h .packing in
-    let refusal : field n 32 8 ≡ r .refusal = omega arith in
-    let mark : field n 0 32 ≡ r .mark = omega arith in
+    let f = mark-fields s a old new n h in
+    let refusal = f .0 ∙ h .says .refusal in
     record {
-      refusal = refusal ∙ is;
-      count = ap₂ (λ (k c : ℕ). if eqb k 0 then c else 0) (refusal ∙ is) (h .stored) ∙ sym (count-read s a old);
-      mark = mark ∙ h .says .mark;
+      refusal = refusal;
+      count = ap₂ (λ (k c : ℕ). if eqb k 0 then c else 0) refusal (h .stored) ∙ sym (count-read s a old);
+      mark = f .1 ∙ h .says .mark;
     }
