@@ -1,12 +1,14 @@
--- Texts put into a slice one after the other are their joined text put there. Assumes nothing.
+-- Texts put into a slice one after the other are their joined text put there, and what is put at its start are its first bytes.
+-- Assumes nothing.
 use mathlib.Core.Path.{_≡_, refl, sym, ap, _∙_, subst}
 use mathlib.Core.List.{List, [], _∷_, _++_}
 use Prim.Native.Nat.{ℕ, suc, _+_, _≤_, _<_}
 use native.Mathlib.Nat.{add-zero}
 use native.Mathlib.Numerals.{add-one}
 use native.Mathlib.Omega.{arith}
-use lib.ListN.{length, take, getD, set, length-append}
-use lib.Seq.{sets, length-sets, take-suc, take-all}
+use lib.ListN.{length, take, drop, getD, set, length-append}
+use lib.Seq.{sets, sets-eq, length-sets, take-at, take-suc, take-all, length-take-le}
+use Rattle.io.specs.Counts.{Counts}
 use Rattle.lines.specs.Lines.{Puts}
 
 pub sets-append : (s t l : List ℕ) (i : ℕ) → sets (sets l i s) (i + length s) t ≡ sets l i (s ++ t)
@@ -39,3 +41,19 @@ puts-more text old mid a i h p =
 
 pub puts-all : (text old new : List ℕ) (a i r : ℕ) → length text ≤ i → Puts (take i text) old a new r → Puts text old a new r
 puts-all text old new a i r h p = subst (λ (t : List ℕ). Puts t old a new r) (take-all i text h) p
+
+-- ---- a text put at the slice's start, which has room for it
+
+module _ {text old new : List ℕ} {len : ℕ} (p : Puts text old 0 new len) (fits : len ≤ length old) where
+  -- its length counts bytes of the slice
+  pub puts-counts : Counts len new
+  puts-counts =
+      let k = puts-kept p in
+      let l : len ≤ length new = omega arith in
+      (l, sym (length-take-le len new l))
+
+  -- and the slice's first bytes are the text
+  pub puts-bytes : take len new ≡ text
+  puts-bytes =
+      let e : len ≡ 0 + length text = p .end in
+      ap (take len) (p .bytes ∙ sets-eq text old 0 (omega arith)) ∙ take-at text (drop (0 + length text) old) len (omega arith)

@@ -1,5 +1,5 @@
 -- What `pattern_line` and `next_line` promise, from what their parts did: a lemma for each way to return. Assumes nothing.
-use mathlib.Core.Path.{_≡_, refl, sym}
+use mathlib.Core.Path.{_≡_, refl}
 use mathlib.Core.List.{List}
 use Prim.Native.Nat.{ℕ, _+_, _-_, _≤_, _<_}
 use native.Mathlib.Omega.{arith}
@@ -8,14 +8,7 @@ use lib.Seq.{length-take-le}
 use Rattle.io.specs.Counts.{Counts}
 use Rattle.lines.specs.Lines.{lineOf, tooLong, Puts, EndsAt, HasLine, PatternLine, NextLine}
 use Rattle.lines.specs.declared.Run.{Run}
-use Rattle.lines.proofs.Putting.{puts-kept}
-
--- what is put at the slice's start, and fits, counts bytes of the slice
-put-counts : {text old new : List ℕ} {len : ℕ} → Puts text old 0 new len → len ≤ length old → Counts len new
-put-counts {text} {old} {new} {len} p h =
-    let k = puts-kept p in
-    let l : len ≤ length new = omega arith in
-    (l, sym (length-take-le len new l))
+use Rattle.lines.proofs.Putting.{puts-counts}
 
 module _ {s old new : List ℕ} {run : Run} where
   -- a pattern that ends before byte e has its line put
@@ -33,7 +26,7 @@ module _ {s old new : List ℕ} {run : Run} where
   gives-pattern {r} h small o =
       let l = o .short in
       let room = h .2 in
-      (put-counts (o .puts) (omega arith), record { line = λ g t. o; only = λ g t. absurd (omega arith); none = λ d. absurd (d h) })
+      (puts-counts (o .puts) (omega arith), record { line = λ g t. o; only = λ g t. absurd (omega arith); none = λ d. absurd (d h) })
 
   -- an input that is too long has its only line put
   pub gives-only : {len : ℕ} → HasLine s run (length old) → 65536 < length s → Puts tooLong old 0 new len
@@ -41,7 +34,7 @@ module _ {s old new : List ℕ} {run : Run} where
   gives-only {len} h long p =
       let e : len ≡ 15 = p .end in
       let room = h .2 in
-      (put-counts p (omega arith), record { line = λ g t. absurd (omega arith); only = λ g t. record { puts = p; over = refl; counts = refl }; none = λ d. absurd (d h) })
+      (puts-counts p (omega arith), record { line = λ g t. absurd (omega arith); only = λ g t. record { puts = p; over = refl; counts = refl }; none = λ d. absurd (d h) })
 
 -- nothing is put where a test says so
 pub gives-none : {s old : List ℕ} {run : Run} → (HasLine s run (length old) → ⊥) → Counts 0 old × NextLine s run old old (record { from = run .from; number = run .number; len = 0 })

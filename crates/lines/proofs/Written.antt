@@ -1,29 +1,23 @@
 -- For a reader: what a run puts, line after line, is the whole output, for every input (`run-is-output`, at the end). Assumes nothing.
 use mathlib.Core.Path.{_≡_, refl, sym, ap, _∙_}
-use mathlib.Core.List.{List, [], _∷_, _++_}
-use Prim.Native.Nat.{ℕ, suc, _+_, _≤_, _<_}
+use mathlib.Core.List.{List, [], _++_}
+use Prim.Native.Nat.{ℕ, _≤_, _<_}
 use native.Mathlib.Numerals.{add-one}
 use native.Mathlib.Omega.{arith}
 use lib.Dec.{ltb}
 use lib.ListN.{length, take, drop, drop-of-length-le}
-use lib.Seq.{sets-eq, take-at}
 use Rattle.basics.proofs.Tests.{if-either}
 use borrow.Author.Tests.{ltb-true, ltb-false}
-use Rattle.lines.specs.Lines.{lineOf, patternsFrom, patternsOf, linesFrom, tooLong, outputOf, Puts, start, PatternLine, OnlyLine, NextLine}
+use Rattle.lines.specs.Lines.{lineOf, patternsFrom, patternsOf, linesFrom, tooLong, outputOf, start, PatternLine, OnlyLine, NextLine}
 use Rattle.lines.specs.declared.Run.{Run}
+use Rattle.lines.proofs.Putting.{puts-bytes}
 use Rattle.lines.proofs.Running.{Stands, stands-first, stands-has, stands-next}
 
--- calls of `next_line`, each with room for a line and with where the last one left the run, until the run is over; t is what they
--- put, joined
+-- calls of `next_line` as the program makes them: each with room for a line, and from where the last one left the run, until the
+-- run is over; t is what they put, joined
 pub data Calls : List ℕ → Run → List ℕ → Type 0 where
   over : (s : List ℕ) (run : Run) → length s ≤ run .from → Calls s run []
   next : (s : List ℕ) (run : Run) (old new t : List ℕ) (r : Run) → run .from < length s → 18 ≤ length old → NextLine s run old new r → Calls s r t → Calls s run (take (r .len) new ++ t)
-
--- the slice's first bytes are what is put at its start
-put-bytes : {text old new : List ℕ} {len : ℕ} → Puts text old 0 new len → len ≤ length old → take len new ≡ text
-put-bytes {text} {old} {new} {len} p h =
-    let e : len ≡ 0 + length text = p .end in
-    ap (take len) (p .bytes ∙ sets-eq text old 0 (omega arith)) ∙ take-at text (drop (0 + length text) old) len (omega arith)
 
 -- ---- an input that is not too long
 
@@ -46,7 +40,7 @@ run-lines (over s run h) small st = sym (ap (λ (l : List ℕ). linesFrom (run .
 run-lines (next s run old new t r on room c k) small st =
     let o : PatternLine s run old new r = c .line (stands-has st on room) small in
     let l = o .short in
-    ap (λ (x : List ℕ). x ++ t) (put-bytes (o .puts) (omega arith))
+    ap (λ (x : List ℕ). x ++ t) (puts-bytes (o .puts) (omega arith))
     ∙ ap (λ (x : List ℕ). lineOf (run .number) (o .pattern) ++ x) (run-lines k small (stands-next st on room c .1))
     ∙ sym (line-and-rest o)
 
@@ -64,7 +58,7 @@ run-only (next s run old new t r on room c k) long b st =
     let o : OnlyLine s run old new r = c .only (stands-has st on room) long in
     let e : r .len ≡ 15 = o .puts .end in
     let f = o .over in
-    ap (λ (x : List ℕ). x ++ t) (put-bytes (o .puts) (omega arith)) ∙ ap (λ (x : List ℕ). tooLong ++ x) (run-over k (omega arith))
+    ap (λ (x : List ℕ). x ++ t) (puts-bytes (o .puts) (omega arith)) ∙ ap (λ (x : List ℕ). tooLong ++ x) (run-over k (omega arith))
 
 -- ---- every input
 

@@ -27,7 +27,9 @@ same-length : tie.Need-same-length
 same-length c = search needs
 
 returns-4 : tie.Need-returns-4
-returns-4 c = gives-only (c .before .before .before .before .before .before .before .before .before .before .if1 .left, c .before .before .before .before .before .before .before .before .if2 .left, c .before .before .before .before .before .before .before .if3 .left) (c .before .before .before .before .before .before .if4 .taken) (c .before .before .before .put .ensures)
+returns-4 c =
+    let long = c .before .before .before .before .before .before .if4 .taken in
+    gives-only (c .before .before .before .before .before .before .before .before .before .before .if1 .left, c .before .before .before .before .before .before .before .before .if2 .left, c .before .before .before .before .before .before .before .if3 .left) (omega arith) (c .before .before .before .put .ensures)
 
 pattern-line-requires : tie.Need-pattern-line-requires
 pattern-line-requires c κs = search needs
@@ -36,7 +38,9 @@ same-length-2 : tie.Need-same-length-2
 same-length-2 c = search needs
 
 returns-5 : tie.Need-returns-5
-returns-5 c = gives-pattern (c .before .before .before .before .before .before .before .before .if1 .left, c .before .before .before .before .before .before .if2 .left, c .before .before .before .before .before .if3 .left) (c .before .before .before .before .if4 .left) (c .before .before .pattern-line .ensures)
+returns-5 c =
+    let small = c .before .before .before .before .if4 .left in
+    gives-pattern (c .before .before .before .before .before .before .before .before .if1 .left, c .before .before .before .before .before .before .if2 .left, c .before .before .before .before .before .if3 .left) (omega arith) (c .before .before .pattern-line .ensures)
 
 pub next-line-spec : {M : Type 1} → statement M
 next-line-spec =

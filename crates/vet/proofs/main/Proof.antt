@@ -1,7 +1,7 @@
 -- Invariant: the run stands as one from `begin` on does, so that every turn brings it on. Assumes nothing.
 use Prim.Native.Nat.{_-_, _<_}
 use native.Mathlib.Omega.{arith}
-use lib.ListN.{length, take}
+use lib.ListN.{take}
 use Rattle.lines.proofs.Running.{Stands, stands-first, stands-next}
 use borrow.Author.Needs.{needs}
 use Rattle.vet.proofs.main.Statement.{statement}
