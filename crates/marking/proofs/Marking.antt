@@ -1,7 +1,7 @@
 -- Marking an answer, refusal by refusal: which of the tests decides, and what is promised then. Assumes nothing.
 use mathlib.Core.Path.{_≡_, sym, ap, _∙_, subst}
 use mathlib.Core.Logic.{_⊎_, inl, inr}
-use mathlib.Core.Bool.{Bool, true, false, not}
+use mathlib.Core.Bool.{true, false, not}
 use mathlib.Core.List.{List}
 use Prim.Native.Nat.{ℕ, _^_, _≤_, _<_, min}
 use lib.Dec.{eqb, ltb}
@@ -15,8 +15,8 @@ use Rattle.graph.specs.Readings.{readings, mark}
 use Rattle.pattern.specs.Refusals.{patternFault, builtGraph}
 use Rattle.pattern.specs.Positions.{patternGraph}
 use Rattle.marks.specs.Rows.{Answered}
-use Rattle.marking.specs.Marking.{markFault, countShown, MarkSays, countAfter}
 use Rattle.marks.specs.declared.Marked.{Marked}
+use Rattle.marking.specs.Marking.{markFault, countShown, MarkSays, countAfter}
 
 -- an accepted pattern is built into its graph
 pub built-graph : (s : List ℕ) → patternFault s ≡ 0 → builtGraph s ≡ patternGraph s

@@ -21,7 +21,7 @@ use Rattle.marks.specs.declared.Marked.{Marked}
 use Rattle.walk.specs.declared.Vetted.{Vetted}
 use Rattle.marking.specs.Packing.{field, vetPacked, vetUnpacked, markPacked, markUnpacked}
 use Rattle.marking.specs.Marking.{markFault, countShown, MarkSays, countAfter, MarkForC}
-use Rattle.marking.specs.Vetting.{vetFault, refused, VetBy, VetSays, VetForC}
+use Rattle.marking.specs.Vetting.{vetFault, VetBy, VetSays, VetForC}
 use Rattle.marking.proofs.Vetting.{accepts}
 
 -- ---- refusals

@@ -11,7 +11,7 @@ use Rattle.graph.specs.Readings.{isReading}
 use Rattle.verdict.specs.Pairs.{letterShown}
 use Rattle.verdict.specs.Verdict.{firstPivot}
 
--- [Letters shown] for two paths side by side, step by step; for one path, as in x and z, it is both
+-- [Letters shown] the text of two paths side by side, step by step; a path alone, as in x and z, is given twice
 abbrev pub shown : Graph → List ℕ → List ℕ → List ℕ
 shown g [] u = []
 shown g (a ∷ r) [] = []

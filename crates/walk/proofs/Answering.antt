@@ -38,7 +38,7 @@ use Rattle.walk.specs.Nodes.{leftOf, rightOf, goes, Step, single, beside
 use Rattle.walk.specs.Walks.{isGoal}
 use Rattle.walk.specs.Tables.{Rows, Shares}
 use Rattle.walk.specs.Texts.{held, letterAt, Showable, written, Told, Shown}
-use Rattle.walk.specs.Answers.{Vettable, judged, Judged}
+use Rattle.walk.specs.Answers.{Vettable, vetted, Judged}
 use Rattle.walk.proofs.Nodes.{left-low, right-low, sides}
 use Rattle.walk.proofs.Linking.{shares-swap, places}
 use Rattle.walk.proofs.Searching.{goal-low, bothIn, parted, short-nodes, shown-codes, some-parts, none-parts, letterOf, chain-route, route-chain}
@@ -47,7 +47,7 @@ use Rattle.walk.proofs.Pivoting.{onlyAt, equal-swap}
 -- ---- what is returned
 
 -- a verdict whose texts are shown
-pub judges : {g : Graph} {e e′ : List ℕ} {v l m n : ℕ} {r : Vetted} → r ≡ judged (g .places) v l m n → Vets g e e′ v l m n → Judged g e e′ r
+pub judges : {g : Graph} {e e′ : List ℕ} {v l m n : ℕ} {r : Vetted} → r ≡ vetted (g .places) v l m n → Vets g e e′ v l m n → Judged g e e′ r
 judges {g} {e} {e′} is h = subst (Judged g e e′) (sym is) (record { refusal = refl; places = refl; vets = h })
 
 -- ---- texts one after the other

@@ -14,9 +14,9 @@ pub record Vettable (b : Built) : Type 0 where
   pub bounded : Bounded (shows b)
   pub trim : Trim (shows b)
 
--- a verdict, the number of positions and three lengths, with no refusal
-abbrev pub judged : ℕ → ℕ → ℕ → ℕ → ℕ → Vetted
-judged places verdict first second third = record { refusal = 0; verdict = verdict; places = places; first = first; second = second; third = third }
+-- a result with no refusal: the number of positions, a verdict and three lengths
+abbrev pub vetted : ℕ → ℕ → ℕ → ℕ → ℕ → Vetted
+vetted places verdict first second third = record { refusal = 0; verdict = verdict; places = places; first = first; second = second; third = third }
 
 -- [Vetting] no refusal, the number of positions, and the verdict with its texts; e and e′ are the evidence before and after
 pub record Judged (g : Graph) (e e′ : List ℕ) (r : Vetted) : Type 0 where

@@ -20,7 +20,7 @@ ghost use Rattle.walk.specs.Nodes.{IsNode, pack, leftOf, rightOf, RowOf,
 ghost use Rattle.walk.specs.Walks.{takeUp, Marked, isGoal, Tried, Hunted, Searched};
 ghost use Rattle.walk.specs.Tables.{Rows, Shares};
 ghost use Rattle.walk.specs.Texts.{held, Lettered, letterAt, Showable, Linked, Behind, Traced, Shown};
-ghost use Rattle.walk.specs.Answers.{Vettable, judged, Judged};
+ghost use Rattle.walk.specs.Answers.{Vettable, vetted, Judged};
 
 // A search under way. A node is a number: below 64 a state, where both paths are and have not parted; a * 64 + b, with
 // 1 <= b <= a, where they have parted and are now at a and b. `head` and `tail` bound the queue of nodes taken up whose steps are
@@ -429,7 +429,7 @@ pub struct Vetted {
 // A verdict with the lengths of its texts.
 fn judgement(places: usize, verdict: u8, first: usize, second: usize, third: usize) -> Vetted
     requires { ⌜ (places ≤ 60) × (first ≤ 4096) × (second ≤ 4096) × (third ≤ 4096) ⌝ }
-    ensures { λ r. ⌜ r ≡ judged places verdict first second third ⌝ }
+    ensures { λ r. ⌜ r ≡ vetted places verdict first second third ⌝ }
 {
     Vetted {
         refusal: 0,
