@@ -152,8 +152,8 @@ fn vetting() {
             let r = vet(p, &mut evidence);
             match plain::vet(p, &mut search) {
                 Err(n) => assert_eq!(r, u64::from(n)),
-                Ok((v, places, ..)) => {
-                    assert_eq!(((r >> 8) as u8, (r >> 16) as u8 as usize), (v, places), "{}", String::from_utf8_lossy(p));
+                Ok((v, positions, ..)) => {
+                    assert_eq!(((r >> 8) as u8, (r >> 16) as u8 as usize), (v, positions), "{}", String::from_utf8_lossy(p));
                 }
             }
         }

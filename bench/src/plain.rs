@@ -3,7 +3,7 @@
 
 #[derive(Clone)]
 pub struct Built {
-    pub places: usize,
+    pub positions: usize,
     pub follow: [u64; 61],
     pub lasts: u64,
     pub letters: [u128; 61],
@@ -16,7 +16,7 @@ struct Reader<'a> {
     built: Built,
     reversed: bool,
     hollow: bool,
-    places: usize,
+    positions: usize,
 }
 
 #[derive(Clone, Copy)]
@@ -163,12 +163,12 @@ impl Reader<'_> {
             credit = d - b'0';
         }
         self.hollow |= set == 0;
-        self.places += 1;
+        self.positions += 1;
         let mut bit = 0;
-        if self.places <= 60 {
-            self.built.letters[self.places] = set;
-            self.built.credits[self.places] = credit;
-            bit = 1 << self.places;
+        if self.positions <= 60 {
+            self.built.letters[self.positions] = set;
+            self.built.credits[self.positions] = credit;
+            bit = 1 << self.positions;
         }
         Some(Part { empty: false, firsts: bit, lasts: bit })
     }
@@ -181,8 +181,8 @@ pub fn read(text: &[u8]) -> Result<Built, u8> {
     if text.iter().any(|b| !(32..=126).contains(b)) {
         return Err(4);
     }
-    let built = Built { places: 0, follow: [0; 61], lasts: 0, letters: [0; 61], credits: [0; 61] };
-    let mut r = Reader { text, at: 0, built, reversed: false, hollow: false, places: 0 };
+    let built = Built { positions: 0, follow: [0; 61], lasts: 0, letters: [0; 61], credits: [0; 61] };
+    let mut r = Reader { text, at: 0, built, reversed: false, hollow: false, positions: 0 };
     let Some(part) = r.pattern().filter(|_| r.at == text.len()) else { return Err(5) };
     if r.reversed {
         return Err(6);
@@ -190,10 +190,10 @@ pub fn read(text: &[u8]) -> Result<Built, u8> {
     if r.hollow {
         return Err(7);
     }
-    if r.places > 60 {
+    if r.positions > 60 {
         return Err(8);
     }
-    r.built.places = r.places;
+    r.built.positions = r.positions;
     r.built.follow[0] = part.firsts;
     r.built.lasts = part.lasts | u64::from(part.empty);
     Ok(r.built)
@@ -213,7 +213,7 @@ pub fn mark(text: &[u8], answer: &[u8]) -> Result<(u64, u32), u8> {
         return Err(10);
     }
     let mut before = [0u64; 61];
-    for u in 0..=b.places {
+    for u in 0..=b.positions {
         let mut left = b.follow[u];
         while left != 0 {
             before[left.trailing_zeros() as usize] |= 1 << u;
@@ -221,7 +221,7 @@ pub fn mark(text: &[u8], answer: &[u8]) -> Result<(u64, u32), u8> {
         }
     }
     let mut holders = [0u64; 128];
-    for i in 1..=b.places {
+    for i in 1..=b.positions {
         let mut left = b.letters[i];
         while left != 0 {
             holders[left.trailing_zeros() as usize] |= 1 << i;
@@ -298,8 +298,8 @@ pub fn mark_all_pairs(text: &[u8], answer: &[u8]) -> Result<(u64, u32), u8> {
         let held = &holds[*c as usize & 127];
         let mut new_counts = [0u64; 61];
         let mut new_best = [None::<u32>; 61];
-        for i in 1..=b.places {
-            for u in 0..=b.places {
+        for i in 1..=b.positions {
+            for u in 0..=b.positions {
                 if follow[u][i] && held[i] {
                     new_counts[i] = plus(new_counts[i], counts[u]);
                     if let Some(m) = best[u] {
@@ -312,7 +312,7 @@ pub fn mark_all_pairs(text: &[u8], answer: &[u8]) -> Result<(u64, u32), u8> {
         best = new_best;
     }
     let (mut n, mut m) = (0, 0);
-    for u in 0..=b.places {
+    for u in 0..=b.positions {
         if b.lasts >> u & 1 == 1 {
             n = plus(n, counts[u]);
             m = m.max(best[u].unwrap_or(0));
@@ -407,8 +407,8 @@ impl Default for Search {
 pub fn vet(text: &[u8], s: &mut Search) -> Result<(u8, usize, [usize; 3], Vec<u8>), u8> {
     let b = read(text)?;
     let mut shares = [0u64; 61];
-    for i in 1..=b.places {
-        for j in 1..=b.places {
+    for i in 1..=b.positions {
+        for j in 1..=b.positions {
             if b.letters[i] & b.letters[j] != 0 {
                 shares[i] |= 1 << j;
             }
@@ -416,7 +416,7 @@ pub fn vet(text: &[u8], s: &mut Search) -> Result<(u8, usize, [usize; 3], Vec<u8
     }
     let mut out = Vec::new();
     let none = [0u64; 61];
-    for q in 1..=b.places {
+    for q in 1..=b.positions {
         if s.run(&b, &shares, q, 1 << q, true).is_some() {
             let at = s.run(&b, &none, 0, 1 << q, false).unwrap_or(0);
             s.text(&b, at, &mut out);
@@ -427,12 +427,12 @@ pub fn vet(text: &[u8], s: &mut Search) -> Result<(u8, usize, [usize; 3], Vec<u8
             let at = s.run(&b, &none, q, b.lasts, false).unwrap_or(0);
             s.text(&b, at, &mut out);
             let z = out.len() - x - y;
-            return Ok((2, b.places, [x, y, z], out));
+            return Ok((2, b.positions, [x, y, z], out));
         }
     }
     if let Some(at) = s.run(&b, &shares, 0, b.lasts, true) {
         s.text(&b, at, &mut out);
-        return Ok((1, b.places, [out.len(), 0, 0], out));
+        return Ok((1, b.positions, [out.len(), 0, 0], out));
     }
-    Ok((0, b.places, [0, 0, 0], out))
+    Ok((0, b.positions, [0, 0, 0], out))
 }

@@ -7,12 +7,12 @@ use mathlib.Core.List.{List, [], _∷_, _++_, append-nil, append-assoc}
 use Prim.Native.Nat.{ℕ, zero, suc, _+_, _≤_, _<_, max}
 use native.Mathlib.Nat.{not-suc-le-zero, add-assoc, zero-add, add-zero, le-refl}
 use native.Mathlib.Omega.{arith}
-use lib.Dec.{eqb, leb}
+use lib.Dec.{eqb}
 use lib.ListN.{getD}
-use borrow.Author.Tests.{eq-eqb, ne-eqb, eqb-true, leb-true, leb-false}
+use borrow.Author.Tests.{eq-eqb, ne-eqb, eqb-true}
 use Rattle.basics.specs.Choice.{if_then_else_}
-use Rattle.basics.specs.Folds.{foldIf, sumIf, anyIf, listIf, mostIf, larger, Less, LeastOf}
-use Rattle.basics.proofs.Tests.{by-test, by-equal, if-yes, if-no, if-either, or-left, or-right, or-cases, and-parts, and-of, same-test}
+use Rattle.basics.specs.Folds.{foldIf, sumIf, anyIf, listIf, mostIf, Less, LeastOf}
+use Rattle.basics.proofs.Tests.{by-test, by-equal, le-or-lt, if-yes, if-no, if-either, or-left, or-right, or-cases, and-parts, and-of, same-test}
 
 pub less-here : (p q : ℕ → Bool) (t : ℕ) → Less p t q → q t ≡ false
 less-here p q t e = e t ∙ ap (λ (b : Bool). p t && not b) (eq-eqb t t refl) ∙ and-false (p t)
@@ -129,39 +129,38 @@ list-none p n h = ap (λ (xs : List ℕ). getD xs 0 0) (fold-none [] _++_ p (λ 
 
 -- ---- the greatest
 
--- the larger of two is above both, and below all that is
-pub le-larger : (a b : ℕ) → (a ≤ larger a b) × (b ≤ larger a b)
-le-larger a b = if-either (λ (x : ℕ). (a ≤ x) × (b ≤ x)) b a (leb a b) (λ e. omega (arith, leb-true a b e)) (λ e. omega (arith, leb-false a b e))
+pub le-max : (a b : ℕ) → (a ≤ max a b) × (b ≤ max a b)
+le-max a b = omega arith
 
-pub larger-le : (a b k : ℕ) → a ≤ k → b ≤ k → larger a b ≤ k
-larger-le a b k p q = if-either (λ (x : ℕ). x ≤ k) b a (leb a b) (λ e. q) (λ e. p)
+pub max-le : (a b k : ℕ) → a ≤ k → b ≤ k → max a b ≤ k
+max-le a b k p q = omega arith
 
--- what `omega` reads
-pub larger-max : (a b : ℕ) → larger a b ≡ max a b
-larger-max a b = let p = le-larger a b in omega (arith, larger-le a b (max a b) (omega arith) (omega arith))
+pub max-none : (a : ℕ) → max a 0 ≡ a
+max-none a = omega arith
 
-pub larger-none : (a : ℕ) → larger a 0 ≡ a
-larger-none a = simp larger-max (omega arith)
+pub max-comm : (a b : ℕ) → max a b ≡ max b a
+max-comm a b = omega arith
 
-pub larger-comm : (a b : ℕ) → larger a b ≡ larger b a
-larger-comm a b = simp larger-max (omega arith)
+pub max-assoc : (a b c : ℕ) → max (max a b) c ≡ max a (max b c)
+max-assoc a b c = omega arith
 
-pub larger-assoc : (a b c : ℕ) → larger (larger a b) c ≡ larger a (larger b c)
-larger-assoc a b c = simp larger-max (omega arith)
+-- what holds of both holds of it
+either-max : (P : ℕ → Type 0) (a b : ℕ) → P a → P b → P (max a b)
+either-max P a b p q = ⊎-elim (λ l. subst P (omega arith) q) (λ l. subst P (omega arith) p) (le-or-lt a b)
 
-pub most-least : (p q : ℕ → Bool) (t : ℕ) → Less p t q → p t ≡ true → ((j : ℕ) → j < t → p j ≡ false) → (f : ℕ → ℕ) (n : ℕ) → t < n → mostIf p f n ≡ larger (f t) (mostIf q f n)
-most-least = fold-least 0 larger (λ a. larger-comm 0 a ∙ larger-none a) larger-none larger-assoc
+pub most-least : (p q : ℕ → Bool) (t : ℕ) → Less p t q → p t ≡ true → ((j : ℕ) → j < t → p j ≡ false) → (f : ℕ → ℕ) (n : ℕ) → t < n → mostIf p f n ≡ max (f t) (mostIf q f n)
+most-least = fold-least 0 max (λ a. max-comm 0 a ∙ max-none a) max-none max-assoc
 
 -- no value is above it
 pub most-above : (p : ℕ → Bool) (f : ℕ → ℕ) (n i : ℕ) → i < n → p i ≡ true → f i ≤ mostIf p f n
 most-above p f n i l e =
-    fold-has 0 larger (λ (a : ℕ). f i ≤ a) (λ a b h. omega (arith, le-larger a b)) (λ a b h. omega (arith, le-larger a b)) p f n i l e (le-refl (f i))
+    fold-has 0 max (λ (a : ℕ). f i ≤ a) (λ a b h. omega (arith, le-max a b)) (λ a b h. omega (arith, le-max a b)) p f n i l e (le-refl (f i))
 
 -- where it is above 0, it is one of the values
 pub most-found : (p : ℕ → Bool) (f : ℕ → ℕ) (n : ℕ) → 1 ≤ mostIf p f n → (i : ℕ) × (i < n) × (p i ≡ true) × (f i ≡ mostIf p f n)
 most-found p f n =
-    fold-keeps 0 larger (λ (a : ℕ). 1 ≤ a → (i : ℕ) × (i < n) × (p i ≡ true) × (f i ≡ a)) (λ h. absurd (omega arith))
-    (λ a b h k. if-either (λ (x : ℕ). 1 ≤ x → (i : ℕ) × (i < n) × (p i ≡ true) × (f i ≡ x)) b a (leb a b) (λ e. k) (λ e. h)) p f n (λ i l e h. (i, l, e, refl))
+    fold-keeps 0 max (λ (a : ℕ). 1 ≤ a → (i : ℕ) × (i < n) × (p i ≡ true) × (f i ≡ a)) (λ h. absurd (omega arith))
+    (either-max (λ (x : ℕ). 1 ≤ x → (i : ℕ) × (i < n) × (p i ≡ true) × (f i ≡ x))) p f n (λ i l e h. (i, l, e, refl))
 
 -- ---- a test that holds of a member
 

@@ -2,8 +2,8 @@
 use mathlib.Core.Path.{_≡_}
 use mathlib.Core.Bool.{Bool, true, false, not, _&&_, _||_}
 use mathlib.Core.List.{List, [], _∷_, _++_}
-use Prim.Native.Nat.{ℕ, zero, suc, _+_, _<_}
-use lib.Dec.{eqb, leb}
+use Prim.Native.Nat.{ℕ, zero, suc, _+_, _<_, max}
+use lib.Dec.{eqb}
 use Rattle.basics.specs.Choice.{if_then_else_}
 
 unfoldable pub foldIf : {A : Type 0} → A → (A → A → A) → (ℕ → Bool) → (ℕ → A) → ℕ → A
@@ -15,11 +15,8 @@ abbrev pub sumIf : (ℕ → Bool) → (ℕ → ℕ) → ℕ → ℕ
 sumIf p f n = foldIf 0 _+_ p f n
 
 -- the greatest f over them, 0 if there is none
-abbrev pub larger : ℕ → ℕ → ℕ
-larger a b = if leb a b then b else a
-
 abbrev pub mostIf : (ℕ → Bool) → (ℕ → ℕ) → ℕ → ℕ
-mostIf p f n = foldIf 0 larger p f n
+mostIf p f n = foldIf 0 max p f n
 
 -- does f hold of one of them
 abbrev pub anyIf : (ℕ → Bool) → (ℕ → Bool) → ℕ → Bool

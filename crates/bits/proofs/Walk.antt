@@ -3,9 +3,9 @@
 use mathlib.Core.Path.{_≡_, sym, ap, _∙_, subst}
 use mathlib.Core.Bool.{Bool, true, false, not, _&&_, _||_, true≢false}
 use mathlib.Core.List.{_∷_}
-use Prim.Native.Nat.{ℕ, _+_, _^_, _<_}
+use Prim.Native.Nat.{ℕ, _+_, _^_, _<_, max}
 use lib.Dec.{eqb}
-use Rattle.basics.specs.Folds.{foldIf, sumIf, mostIf, anyIf, listIf, larger, Less}
+use Rattle.basics.specs.Folds.{foldIf, sumIf, mostIf, anyIf, listIf, Less}
 use Rattle.basics.proofs.Tests.{and-parts, by-equal}
 use Rattle.basics.proofs.Folds.{less-other, fold-none, sum-least, most-least, any-least, list-least, any-one}
 use Rattle.bits.specs.Bits.{hasBit, Least}
@@ -16,7 +16,7 @@ module _ (k m t r : ℕ) (h : m < 2 ^ k) (l : Least m t) (e : Less (hasBit m) t 
   pub sum-turn : (f : ℕ → ℕ) → sumIf (hasBit m) f k ≡ f t + sumIf (hasBit r) f k
   sum-turn f = sum-least (hasBit m) (hasBit r) t e (l .here) (l .none) f k (member-below k m t h (l .here))
 
-  pub most-turn : (f : ℕ → ℕ) → mostIf (hasBit m) f k ≡ larger (f t) (mostIf (hasBit r) f k)
+  pub most-turn : (f : ℕ → ℕ) → mostIf (hasBit m) f k ≡ max (f t) (mostIf (hasBit r) f k)
   most-turn f = most-least (hasBit m) (hasBit r) t e (l .here) (l .none) f k (member-below k m t h (l .here))
 
   pub any-turn : (f : ℕ → Bool) → anyIf (hasBit m) f k ≡ (f t || anyIf (hasBit r) f k)

@@ -32,21 +32,21 @@ pub fn with(mask: u64, i: usize) -> u64
 }
 
 // The members of a and those of b.
-pub fn joined(a: u64, b: u64) -> u64
+pub fn union(a: u64, b: u64) -> u64
     ensures { λ r. ⌜ ((j : ℕ) → hasBit r j ≡ (hasBit a j || hasBit b j)) ⌝ }
 {
     a | b
 }
 
 // The members of a that are in b.
-pub fn both(a: u64, b: u64) -> u64
+pub fn intersection(a: u64, b: u64) -> u64
     ensures { λ r. ⌜ ((j : ℕ) → hasBit r j ≡ (hasBit a j && hasBit b j)) ⌝ }
 {
     a & b
 }
 
 // The members of a that are not in b.
-pub fn minus(a: u64, b: u64) -> u64
+pub fn difference(a: u64, b: u64) -> u64
     ensures { λ r. ⌜ ((j : ℕ) → hasBit r j ≡ (hasBit a j && not (hasBit b j))) ⌝ }
 {
     a & !b
@@ -68,7 +68,7 @@ pub fn span(from: usize, to: usize) -> u64
     requires { ⌜ (from ≤ 64) × (to ≤ 64) ⌝ }
     ensures { λ r. ⌜ ((j : ℕ) → hasBit r j ≡ (leb from j && ltb j to)) ⌝ }
 {
-    minus(below(to), below(from))
+    difference(below(to), below(from))
 }
 
 // The least member of a set that is not empty.

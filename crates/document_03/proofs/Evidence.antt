@@ -26,7 +26,7 @@ use Rattle.document_03.specs.Verdicts as W
 use Rattle.document_03.specs.Says as S
 use Rattle.document_03.proofs.Lists.{cons-parts, same-differ}
 use Rattle.document_03.proofs.Parts.{Same}
-use Rattle.document_03.proofs.Positions.{same-places}
+use Rattle.document_03.proofs.Positions.{same-positions}
 use Rattle.document_03.proofs.Readings.{same-reading, reads-shift}
 use Rattle.document_03.proofs.Ways.{lowest-same}
 use Rattle.document_03.proofs.Verdicts.{same-pivot}
@@ -53,7 +53,7 @@ ends-at l a n e m k = sym (end-last 0 a m) ∙ ap (endOf 0) (sym e) ∙ k
 -- what document 03 asks of x, y, z, but for the number of readings, which it then has
 abbrev pub RunawayD : D.Part → List ℕ → List ℕ → List ℕ → Type 0
 RunawayD v x y z =
-    (allLetters (x ++ (y ++ z)) ≡ true) × (length x ≤ R.places v) × (1 ≤ length y) × (length y ≤ R.places v * R.places v + R.places v) × (length z ≤ R.places v) × S.RunawayBy v x y z
+    (allLetters (x ++ (y ++ z)) ≡ true) × (length x ≤ R.positions v) × (1 ≤ length y) × (length y ≤ R.positions v * R.positions v + R.positions v) × (length z ≤ R.positions v) × S.RunawayBy v x y z
 
 module _ {p : Part} {v : D.Part} (h : Same p v) where
   to-shown : (r u s : List ℕ) → W.lowestOn v r u s ≡ true → s ≡ shown (graphOf p) (map suc r) (map suc u)
@@ -84,13 +84,13 @@ module _ {p : Part} {v : D.Part} (h : Same p v) where
   reading-length : (s r : List ℕ) → isReading (graphOf p) s (map suc r) ≡ true → length r ≡ length s
   reading-length s r e = sym (length-map r suc) ∙ walk-length (graphOf p) 0 s (map suc r) (reads-walk (graphOf p) 0 s (map suc r) e .0)
 
-  longest-same : longest (graphOf p) ≡ R.places v * R.places v + R.places v
-  longest-same = ap (λ (n : ℕ). n * n + n) (same-places h)
+  longest-same : longest (graphOf p) ≡ R.positions v * R.positions v + R.positions v
+  longest-same = ap (λ (n : ℕ). n * n + n) (same-positions h)
 
-  pub same-steady : (s : List ℕ) → ShowsSteady (graphOf p) s ↔ ((allLetters s ≡ true) × (length s ≤ R.places v * R.places v + R.places v) × S.SteadyBy v s)
+  pub same-steady : (s : List ℕ) → ShowsSteady (graphOf p) s ↔ ((allLetters s ≡ true) × (length s ≤ R.positions v * R.positions v + R.positions v) × S.SteadyBy v s)
   same-steady s = (to, of)
     where
-      to : ShowsSteady (graphOf p) s → (allLetters s ≡ true) × (length s ≤ R.places v * R.places v + R.places v) × S.SteadyBy v s
+      to : ShowsSteady (graphOf p) s → (allLetters s ≡ true) × (length s ≤ R.positions v * R.positions v + R.positions v) × S.SteadyBy v s
       to k =
           let r = reads-shift h 0 s (k .one) (k .reads-one) in
           let u = reads-shift h 0 s (k .other) (k .reads-other) in
@@ -108,7 +108,7 @@ module _ {p : Part} {v : D.Part} (h : Same p v) where
             ),
           )
 
-      of : (allLetters s ≡ true) × (length s ≤ R.places v * R.places v + R.places v) × S.SteadyBy v s → ShowsSteady (graphOf p) s
+      of : (allLetters s ≡ true) × (length s ≤ R.positions v * R.positions v + R.positions v) × S.SteadyBy v s → ShowsSteady (graphOf p) s
       of k = record {
         letters = k .0;
         short = subst (λ (n : ℕ). length s ≤ n) (sym longest-same) (k .1);
@@ -147,10 +147,10 @@ module _ {p : Part} {v : D.Part} (h : Same p v) where
         record {
           letters = o .0;
           some-x = m;
-          short-x = subst (λ (n : ℕ). length x ≤ n) (sym (same-places h)) (o .1);
+          short-x = subst (λ (n : ℕ). length x ≤ n) (sym (same-positions h)) (o .1);
           some-y = o .2;
           short-y = subst (λ (n : ℕ). length y ≤ n) (sym longest-same) (o .3);
-          short-z = subst (λ (n : ℕ). length z ≤ n) (sym (same-places h)) (o .4);
+          short-z = subst (λ (n : ℕ). length z ≤ n) (sym (same-positions h)) (o .4);
           way-in = map suc (w .0);
           loop = map suc (w .1);
           other = map suc (w .2);
@@ -184,10 +184,10 @@ module _ {p : Part} {v : D.Part} (h : Same p v) where
         let at-c = ends-at (k .loop) c (firstPivot (graphOf p)) ec (omega arith) (k .back) in
         let at-d = ends-at (k .other) d (firstPivot (graphOf p)) ed (omega arith) (k .other-back) in (
           k .letters,
-          subst (λ (n : ℕ). length x ≤ n) (same-places h) (k .short-x),
+          subst (λ (n : ℕ). length x ≤ n) (same-positions h) (k .short-x),
           some-y,
           subst (λ (n : ℕ). length y ≤ n) longest-same (k .short-y),
-          subst (λ (n : ℕ). length z ≤ n) (same-places h) (k .short-z),
+          subst (λ (n : ℕ). length z ≤ n) (same-positions h) (k .short-z),
           (
             a,
             c,

@@ -2,7 +2,7 @@ pub mod Lists
 pub mod Parts
 pub mod Grammar
 pub mod Positions
-pub mod Faults
+pub mod Refusals
 pub mod Folds
 pub mod Readings
 pub mod Texts

@@ -9,7 +9,7 @@ use lib.ListN.{length, getD}
 use Rattle.letters.specs.Alphabet.{someFrom}
 use Rattle.pattern.specs.Parts.{Atom, holds, Repeat, optional, star, plus, skips, loops, Part}
 use Rattle.pattern.specs.Grammar.{noAtom}
-use Rattle.pattern.specs.Positions.{atoms, places, canBeEmpty, isFirst, isLast, follows}
+use Rattle.pattern.specs.Positions.{atoms, positions, canBeEmpty, isFirst, isLast, follows}
 use Rattle.pattern.specs.Refusals.{anyReversed, anyEmpty}
 use Rattle.document_03.specs.Patterns as D
 use Rattle.document_03.specs.Readings as R
@@ -53,8 +53,8 @@ same-at none i = same-class false [] 0
 same-at (one a h) zero = a
 same-at (one a h) (suc i) = same-at h i
 
-pub same-places : {p : Part} {v : D.Part} → Same p v → places p ≡ R.places v
-same-places h = same-count (same-atoms h)
+pub same-positions : {p : Part} {v : D.Part} → Same p v → positions p ≡ R.positions v
+same-positions h = same-count (same-atoms h)
 
 -- ---- can it be empty, firsts, lasts, what may follow
 
@@ -82,14 +82,14 @@ in-only x n = eqb·suc-suc x n ∙ sym (or-false (eqb x n))
 
 pub same-first : (n : ℕ) {p : Part} {v : D.Part} → Same p v → (x : ℕ) → isFirst n p (suc x) ≡ D.isIn x (R.firsts n v)
 same-first n (same-letter h) x = in-only x n
-same-first n (same-either h k) x = rw (same-places h, same-first n h x, same-first _ k x, in-append)
-same-first n (same-joined h k) x = rw (same-places h, same-can h, same-first n h x, same-first _ k x, in-append, in-pick)
+same-first n (same-either h k) x = rw (same-positions h, same-first n h x, same-first _ k x, in-append)
+same-first n (same-joined h k) x = rw (same-positions h, same-can h, same-first n h x, same-first _ k x, in-append, in-pick)
 same-first n (same-again r h) x = same-first n h x
 
 pub same-last : (n : ℕ) {p : Part} {v : D.Part} → Same p v → (x : ℕ) → isLast n p (suc x) ≡ D.isIn x (R.lasts n v)
 same-last n (same-letter h) x = in-only x n
-same-last n (same-either h k) x = rw (same-places h, same-last n h x, same-last _ k x, in-append)
-same-last n (same-joined h k) x = rw (same-places h, same-can k, same-last n h x, same-last _ k x, in-append, in-pick)
+same-last n (same-either h k) x = rw (same-positions h, same-last n h x, same-last _ k x, in-append)
+same-last n (same-joined h k) x = rw (same-positions h, same-can k, same-last n h x, same-last _ k x, in-append, in-pick)
 same-last n (same-again r h) x = same-last n h x
 
 pub same-loops : (k : Repeat) → loops k ≡ leb 1 (number k)
@@ -99,6 +99,6 @@ same-loops plus = refl
 
 pub same-follows : (n : ℕ) {p : Part} {v : D.Part} → Same p v → (x y : ℕ) → follows n p (suc x) (suc y) ≡ R.follows n v x y
 same-follows n (same-letter h) x y = refl
-same-follows n (same-either h k) x y = rw (same-places h, same-follows n h x y, same-follows _ k x y)
-same-follows n (same-joined h k) x y = rw (same-places h, same-follows n h x y, same-follows _ k x y, same-last n h x, same-first _ k y)
+same-follows n (same-either h k) x y = rw (same-positions h, same-follows n h x y, same-follows _ k x y)
+same-follows n (same-joined h k) x y = rw (same-positions h, same-follows n h x y, same-follows _ k x y, same-last n h x, same-first _ k y)
 same-follows n (same-again r h) x y = rw (same-follows n h x y, same-last n h x, same-first n h y, same-loops r)

@@ -11,7 +11,7 @@ use lib.Dec.{eqb}
 use borrow.Author.Tests.{eqb-true, eq-eqb}
 use Rattle.basics.proofs.Tests.{and-parts, and-of, or-cases, or-left, or-right, by-equal}
 use Rattle.document_03.specs.Patterns.{pick, Part}
-use Rattle.document_03.specs.Readings.{places, follows}
+use Rattle.document_03.specs.Readings.{positions, follows}
 use Rattle.document_03.specs.Verdicts.{Two, two, hasTwo, shares, leadsTo, growRow, growRows, countT, reachFrom, reach}
 
 -- ---- a pair in a list
@@ -104,14 +104,14 @@ grown-row p (suc k) b a s = grown-trans s (more p a b s) (growRow (suc k) b p a 
 
 grown-rows : (p : Part) (k a : ℕ) (s : List Two) → Grown s (growRows k a p s)
 grown-rows p zero a s = grown-none s
-grown-rows p (suc k) a s = grown-trans s (growRow (places p) 0 p a s) (growRows (suc k) a p s) (grown-row p (places p) 0 a s) (grown-rows p k (suc a) (growRow (places p) 0 p a s))
+grown-rows p (suc k) a s = grown-trans s (growRow (positions p) 0 p a s) (growRows (suc k) a p s) (grown-row p (positions p) 0 a s) (grown-rows p k (suc a) (growRow (positions p) 0 p a s))
 
 -- one sweep
 abbrev pub sweep : Part → List Two → List Two
-sweep p s = growRows (places p) 0 p s
+sweep p s = growRows (positions p) 0 p s
 
 pub grown-sweep : (p : Part) (s : List Two) → Grown s (sweep p s)
-grown-sweep p s = grown-rows p (places p) 0 s
+grown-sweep p s = grown-rows p (positions p) 0 s
 
 -- what holds of the list before a sweep and of that after it
 from-either : (P : List Two → Type 0) (t : Bool) (x y : List Two) → P x → P y → P (elim t as (λ (z : Bool). List Two) [ true ↦ x | false ↦ y ])
@@ -140,25 +140,25 @@ module _ (p : Part) (c d a b : ℕ) (f : follows 0 p c a ≡ true) (g : follows 
       by-equal j b (λ e. grown-row p k (suc j) a (more p a j s) .keeps a b (subst (λ (i : ℕ). hasTwo a b (more p a i s) ≡ true) (sym e) (add-has s h)))
       (λ n. rest (omega arith) (omega arith) (grown-add a j s (test p a j s) .keeps c d h))
 
-  rows-has : (k i : ℕ) (s : List Two) → i ≤ a → a < i + k → b < places p → hasTwo c d s ≡ true → hasTwo a b (growRows k i p s) ≡ true
+  rows-has : (k i : ℕ) (s : List Two) → i ≤ a → a < i + k → b < positions p → hasTwo c d s ≡ true → hasTwo a b (growRows k i p s) ≡ true
   rows-has zero i s l m n h = absurd (omega arith)
   rows-has (suc k) i s l m n h =
-      let row = growRow (places p) 0 p i s in
+      let row = growRow (positions p) 0 p i s in
       let rest = rows-has k (suc i) row in
-      by-equal i a (λ e. grown-rows p k (suc i) row .keeps a b (subst (λ (j : ℕ). hasTwo a b (growRow (places p) 0 p j s) ≡ true) (sym e) (row-has (places p) 0 s zero-le (omega arith) h)))
-      (λ o. rest (omega arith) (omega arith) n (grown-row p (places p) 0 i s .keeps c d h))
+      by-equal i a (λ e. grown-rows p k (suc i) row .keeps a b (subst (λ (j : ℕ). hasTwo a b (growRow (positions p) 0 p j s) ≡ true) (sym e) (row-has (positions p) 0 s zero-le (omega arith) h)))
+      (λ o. rest (omega arith) (omega arith) n (grown-row p (positions p) 0 i s .keeps c d h))
 
-  pub sweep-has : (s : List Two) → a < places p → b < places p → hasTwo c d s ≡ true → hasTwo a b (sweep p s) ≡ true
-  sweep-has s l m h = rows-has (places p) 0 s zero-le (omega arith) m h
+  pub sweep-has : (s : List Two) → a < positions p → b < positions p → hasTwo c d s ≡ true → hasTwo a b (sweep p s) ≡ true
+  sweep-has s l m h = rows-has (positions p) 0 s zero-le (omega arith) m h
 
 -- ---- nothing else: whatever holds of the start and is kept by steps holds of all
 
 module _ (p : Part) (R : ℕ → ℕ → Type 0) (onward : (a b c d : ℕ) → R a b → follows 0 p a c ≡ true → follows 0 p b d ≡ true → shares p c d ≡ true
-    → c < places p → d < places p → R c d) where
+    → c < positions p → d < positions p → R c d) where
   abbrev Holds : List Two → Type 0
   Holds s = (a b : ℕ) → hasTwo a b s ≡ true → R a b
 
-  holds-add : (a b : ℕ) (s : List Two) → a < places p → b < places p → Holds s → (t : Bool) → test p a b s ≡ t → Holds (pick t (two a b ∷ s) s)
+  holds-add : (a b : ℕ) (s : List Two) → a < positions p → b < positions p → Holds s → (t : Bool) → test p a b s ≡ t → Holds (pick t (two a b ∷ s) s)
   holds-add a b s x y h true e c d q =
       let w = and-parts (not (hasTwo a b s)) (shares p a b && leadsTo p a b s) e in
       let z = and-parts (shares p a b) (leadsTo p a b s) (w .1) in
@@ -167,19 +167,19 @@ module _ (p : Part) (R : ℕ → ℕ → Type 0) (onward : (a b c d : ℕ) → R
       ⊎-elim (λ m. subst (λ (t : Two). R (t .a) (t .b)) (sym (equal-two c d (two a b) m)) here) (λ m. h c d m) (or-cases (eqb c a && eqb d b) (hasTwo c d s) q)
   holds-add a b s x y h false e c d q = h c d q
 
-  holds-row : (k b a : ℕ) (s : List Two) → a < places p → b + k ≤ places p → Holds s → Holds (growRow k b p a s)
+  holds-row : (k b a : ℕ) (s : List Two) → a < positions p → b + k ≤ positions p → Holds s → Holds (growRow k b p a s)
   holds-row zero b a s x l h = h
   holds-row (suc k) b a s x l h = holds-row k (suc b) a (more p a b s) x (omega arith) (holds-add a b s x (omega arith) h (test p a b s) refl)
 
-  holds-rows : (k a : ℕ) (s : List Two) → a + k ≤ places p → Holds s → Holds (growRows k a p s)
+  holds-rows : (k a : ℕ) (s : List Two) → a + k ≤ positions p → Holds s → Holds (growRows k a p s)
   holds-rows zero a s l h = h
-  holds-rows (suc k) a s l h = holds-rows k (suc a) (growRow (places p) 0 p a s) (omega arith) (holds-row (places p) 0 a s (omega arith) (omega arith) h)
+  holds-rows (suc k) a s l h = holds-rows k (suc a) (growRow (positions p) 0 p a s) (omega arith) (holds-row (positions p) 0 a s (omega arith) (omega arith) h)
 
   holds-from : (k : ℕ) (s : List Two) → Holds s → Holds (reachFrom k p s)
   holds-from zero s h = h
   holds-from (suc k) s h =
-      from-either Holds (eqb (countT (sweep p s)) (countT s)) s (reachFrom k p (sweep p s)) h (holds-from k (sweep p s) (holds-rows (places p) 0 s (omega arith) h))
+      from-either Holds (eqb (countT (sweep p s)) (countT s)) s (reachFrom k p (sweep p s)) h (holds-from k (sweep p s) (holds-rows (positions p) 0 s (omega arith) h))
 
   -- the induction that `reach` allows
   pub reach-only : (ts : List Two) → ((a b : ℕ) → hasTwo a b ts ≡ true → R a b) → (a b : ℕ) → hasTwo a b (reach p ts) ≡ true → R a b
-  reach-only ts h = holds-from (places p * places p) ts h
+  reach-only ts h = holds-from (positions p * positions p) ts h

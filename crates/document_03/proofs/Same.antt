@@ -9,10 +9,10 @@ use lib.ListN.{length}
 use Rattle.letters.specs.Alphabet.{allLetters}
 use Rattle.graph.specs.Readings.{isReading, creditOf, readings, mark}
 use Rattle.pattern.specs.Grammar.{readPattern, patternPart}
-use Rattle.pattern.specs.Positions.{places, canBeEmpty, isFirst, isLast, follows, patternGraph}
-use Rattle.pattern.specs.Refusals.{patternFault}
+use Rattle.pattern.specs.Positions.{positions, canBeEmpty, isFirst, isLast, follows, patternGraph}
+use Rattle.pattern.specs.Refusals.{patternRefusal}
 use Rattle.pattern.specs.Texts.{Text}
-use Rattle.pattern.proofs.Accepted.{fault-none}
+use Rattle.pattern.proofs.Accepted.{refusal-none}
 use Rattle.verdict.specs.Evidence.{shown, ShowsSteady, ShowsRunaway}
 use Rattle.verdict.specs.Verdict.{ambiguous, isPivot, firstPivot, verdict}
 use Rattle.document_03.specs.Patterns as D
@@ -22,7 +22,7 @@ use Rattle.document_03.specs.Claims as C
 use Rattle.document_03.specs.Says as S
 use Rattle.document_03.proofs.Parts.{Same}
 use Rattle.document_03.proofs.Grammar as G
-use Rattle.document_03.proofs.Faults as F
+use Rattle.document_03.proofs.Refusals as F
 use Rattle.document_03.proofs.Positions as P
 use Rattle.document_03.proofs.Readings as N
 use Rattle.document_03.proofs.Texts as T
@@ -35,8 +35,8 @@ old b = D.patternPart b
 -- ---- for every list of bytes
 
 -- which refusal
-pub same-fault : (b : List ℕ) → D.patternFault b ≡ patternFault b
-same-fault = F.same-fault
+pub same-refusal : (b : List ℕ) → D.patternRefusal b ≡ patternRefusal b
+same-refusal = F.same-refusal
 
 -- what is read
 pub same-read : (b : List ℕ) → G.SameRead (readPattern b) (D.readPattern b)
@@ -46,8 +46,8 @@ pub same-part : (b : List ℕ) → Same (patternPart b) (old b)
 same-part b = G.same-read b .part
 
 -- the positions
-pub same-places : (b : List ℕ) → places (patternPart b) ≡ R.places (old b)
-same-places b = P.same-places (same-part b)
+pub same-positions : (b : List ℕ) → positions (patternPart b) ≡ R.positions (old b)
+same-positions b = P.same-positions (same-part b)
 
 pub same-empty : (b : List ℕ) → canBeEmpty (patternPart b) ≡ R.canBeEmpty (old b)
 same-empty b = P.same-can (same-part b)
@@ -91,7 +91,7 @@ same-text b = T.same-text (same-part b)
 pub same-shown : (b r u s : List ℕ) → length r ≡ length u → (W.lowestOn (old b) r u s ≡ true) ↔ (s ≡ shown (patternGraph b) (map suc r) (map suc u))
 same-shown b = E.same-shown (same-part b)
 
-pub same-steady : (b s : List ℕ) → ShowsSteady (patternGraph b) s ↔ ((allLetters s ≡ true) × (length s ≤ R.places (old b) * R.places (old b) + R.places (old b)) × S.SteadyBy (old b) s)
+pub same-steady : (b s : List ℕ) → ShowsSteady (patternGraph b) s ↔ ((allLetters s ≡ true) × (length s ≤ R.positions (old b) * R.positions (old b) + R.positions (old b)) × S.SteadyBy (old b) s)
 same-steady b = E.same-steady (same-part b)
 
 -- does an answer have two readings
@@ -100,16 +100,16 @@ same-ambiguous b = Q.same-ambiguous (same-part b)
 
 -- ---- for an accepted pattern
 
-module _ (b : List ℕ) (accepted : patternFault b ≡ 0) where
+module _ (b : List ℕ) (accepted : patternRefusal b ≡ 0) where
   -- the verdict
   pub same-pivot : firstPivot (patternGraph b) ≡ W.firstPivot (old b)
-  same-pivot = Q.same-pivot (same-part b) (fault-none b accepted .none-empty)
+  same-pivot = Q.same-pivot (same-part b) (refusal-none b accepted .none-empty)
 
-  pub same-pivots : (q : ℕ) → q < R.places (old b) → isPivot (patternGraph b) (suc q) ≡ W.isPivot (old b) q
-  same-pivots = Q.same-pivoting (same-part b) (fault-none b accepted .none-empty)
+  pub same-pivots : (q : ℕ) → q < R.positions (old b) → isPivot (patternGraph b) (suc q) ≡ W.isPivot (old b) q
+  same-pivots = Q.same-pivoting (same-part b) (refusal-none b accepted .none-empty)
 
   pub same-verdict : verdict (patternGraph b) ≡ W.verdict (old b)
-  same-verdict = Q.same-verdict (same-part b) (fault-none b accepted .none-empty)
+  same-verdict = Q.same-verdict (same-part b) (refusal-none b accepted .none-empty)
 
   pub same-runaway : (x y z : List ℕ) → ShowsRunaway (patternGraph b) x y z ↔ ((1 ≤ length x) × E.RunawayD (old b) x y z)
-  same-runaway = E.same-runaway (same-part b) (fault-none b accepted .none-empty)
+  same-runaway = E.same-runaway (same-part b) (refusal-none b accepted .none-empty)

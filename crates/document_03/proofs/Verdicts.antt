@@ -26,7 +26,7 @@ use Rattle.document_03.specs.Readings as R
 use Rattle.document_03.specs.Verdicts as W
 use Rattle.document_03.proofs.Folds.{over, fold-over}
 use Rattle.document_03.proofs.Parts.{Same}
-use Rattle.document_03.proofs.Positions.{same-atoms, same-empty, same-places}
+use Rattle.document_03.proofs.Positions.{same-atoms, same-empty, same-positions}
 use Rattle.document_03.proofs.Readings.{if-when, same-end, same-position}
 use Rattle.document_03.proofs.Reach.{someTwo, two-found, some-two, leads-from, has-leads, from-keeps, reach-only}
 use Rattle.document_03.proofs.Ways.{placed-of, below, step-to, Leads, Begins, only-found, begins-one, begins-starts, found}
@@ -139,14 +139,14 @@ module _ {p : Part} {v : D.Part} (h : Same p v) where
 
   pub same-ambiguous : ambiguous (graphOf p) ≡ W.ambiguous v
   same-ambiguous =
-      same-parting 0 (λ c d. graphOf p .last c && graphOf p .last d) (W.startsFrom (R.places v) 0 v) (W.endsIn v) (begins-starts h)
+      same-parting 0 (λ c d. graphOf p .last c && graphOf p .last d) (W.startsFrom (R.positions v) 0 v) (W.endsIn v) (begins-starts h)
       (λ a b n k c d w e.
       ends-are v (W.reach v (W.two a b ∷ []))
       ∙ some-two (ending v) (W.reach v (W.two a b ∷ [])) c d (begins-at a b k .of c d w) (ap₂ _&&_ (sym (same-end h (suc c))) (sym (same-end h (suc d))) ∙ e))
       (λ a b k e.
       let x = two-found (ending v) (W.reach v (W.two a b ∷ [])) (sym (ends-are v (W.reach v (W.two a b ∷ []))) ∙ e) in
       (x .a, x .b, begins-at a b k .to (x .a) (x .b) (x .has), ap₂ _&&_ (same-end h (suc (x .a))) (same-end h (suc (x .b))) ∙ x .passes))
-      ∙ sym (parts-are v (W.reach v (W.startsFrom (R.places v) 0 v)))
+      ∙ sym (parts-are v (W.reach v (W.startsFrom (R.positions v) 0 v)))
 
   -- ---- pivots
 
@@ -162,10 +162,10 @@ module _ {p : Part} {v : D.Part} (h : Same p v) where
         g .of c d (way-join (Beside (graphOf p)) t (pair (suc i) (suc j)) (pair (suc c) (suc d)) (g .to i j (r .0) .0) (step-to h (suc i) (suc j) c d f n q x y), placed-of h c d x y),
         inr (has-leads v c d i j l (r .0) f n),
       ))
-      (W.two a b ∷ []) (λ c d m. (from-keeps v (R.places v * R.places v) (W.two a b ∷ []) c d m, inl (only-found true c d a b m .1))) c d e .1
+      (W.two a b ∷ []) (λ c d m. (from-keeps v (R.positions v * R.positions v) (W.two a b ∷ []) c d m, inl (only-found true c d a b m .1))) c d e .1
 
   module _ (lettered : anyEmpty (atoms p) ≡ false) where
-    pub same-pivoting : (q : ℕ) → q < R.places v → isPivot (graphOf p) (suc q) ≡ W.isPivot v q
+    pub same-pivoting : (q : ℕ) → q < R.positions v → isPivot (graphOf p) (suc q) ≡ W.isPivot v q
     same-pivoting q l =
         same-parting (suc q) (λ c d. eqb c (suc q) && eqb d (suc q)) (W.two q q ∷ []) (W.leadsTo v q q) (begins-one h q q l l)
         (λ a b n k c d w e.
@@ -190,16 +190,16 @@ module _ {p : Part} {v : D.Part} (h : Same p v) where
     abbrev passing : ℕ → Bool
     passing q = isPosition (graphOf p) q && isPivot (graphOf p) q
 
-    same-passing : (q : ℕ) → q < R.places v → passing (suc q) ≡ W.isPivot v q
-    same-passing q l = ap₂ _&&_ (same-position h q ∙ lt-ltb q (R.places v) l) (same-pivoting q l)
+    same-passing : (q : ℕ) → q < R.positions v → passing (suc q) ≡ W.isPivot v q
+    same-passing q l = ap₂ _&&_ (same-position h q ∙ lt-ltb q (R.positions v) l) (same-pivoting q l)
 
     pub same-pivot : firstPivot (graphOf p) ≡ W.firstPivot v
     same-pivot =
-        ap (λ (n : ℕ). getD (listIf passing (suc n)) 0 0) (same-places h)
-        ∙ ap (λ (l : List ℕ). getD l 0 0) (fold-over [] _++_ (λ l. refl) append-nil append-assoc passing (λ q. q ∷ []) (W.isPivot v) (λ q. suc q ∷ []) (R.places v) refl same-passing (λ q. refl))
-        ∙ first-of v (R.places v) 0
+        ap (λ (n : ℕ). getD (listIf passing (suc n)) 0 0) (same-positions h)
+        ∙ ap (λ (l : List ℕ). getD l 0 0) (fold-over [] _++_ (λ l. refl) append-nil append-assoc passing (λ q. q ∷ []) (W.isPivot v) (λ q. suc q ∷ []) (R.positions v) refl same-passing (λ q. refl))
+        ∙ first-of v (R.positions v) 0
 
     pub same-verdict : verdict (graphOf p) ≡ W.verdict v
     same-verdict =
         ap₂ (λ (n : ℕ) (t : Bool). if not (eqb n 0) then 2 else if t then 1 else 0) same-pivot same-ambiguous
-        ∙ ap₂ (λ (t : Bool) (m : ℕ). if t then 2 else m) (has-first v (R.places v) 0) (if-when (W.ambiguous v))
+        ∙ ap₂ (λ (t : Bool) (m : ℕ). if t then 2 else m) (has-first v (R.positions v) 0) (if-when (W.ambiguous v))

@@ -23,7 +23,7 @@ use Rattle.document_03.specs.Patterns as D
 use Rattle.document_03.specs.Readings as R
 use Rattle.document_03.specs.Verdicts as W
 use Rattle.document_03.proofs.Parts.{Same, elim-same}
-use Rattle.document_03.proofs.Positions.{same-places}
+use Rattle.document_03.proofs.Positions.{same-positions}
 use Rattle.document_03.proofs.Readings.{nextD, same-next, same-holds, same-position}
 use Rattle.document_03.proofs.Reach.{has-head, equal-two, sweep, grown-sweep, from-keeps, sweep-has, reach-only}
 
@@ -56,33 +56,33 @@ abbrev starting : D.Part → ℕ → ℕ → Bool
 starting v a b = D.isIn a (R.firsts 0 v) && (D.isIn b (R.firsts 0 v) && W.shares v a b)
 
 abbrev starts : D.Part → List W.Two
-starts v = W.startsFrom (R.places v) 0 v
+starts v = W.startsFrom (R.positions v) 0 v
 
 row-is : (v : D.Part) (a n b : ℕ) → W.startRow n b v a ≡ rows n b (λ k. D.pick (starting v a k) (W.two a k ∷ []) [])
 row-is v a zero b = refl
 row-is v a (suc n) b = ap (W.joinT (D.pick (starting v a b) (W.two a b ∷ []) [])) (row-is v a n (suc b))
 
-starts-are : (v : D.Part) (n a : ℕ) → W.startsFrom n a v ≡ rows n a (λ i. W.startRow (R.places v) 0 v i)
+starts-are : (v : D.Part) (n a : ℕ) → W.startsFrom n a v ≡ rows n a (λ i. W.startRow (R.positions v) 0 v i)
 starts-are v zero a = refl
-starts-are v (suc n) a = ap (W.joinT (W.startRow (R.places v) 0 v a)) (starts-are v n (suc a))
+starts-are v (suc n) a = ap (W.joinT (W.startRow (R.positions v) 0 v a)) (starts-are v n (suc a))
 
 pub only-found : (t : Bool) (a b j k : ℕ) → W.hasTwo a b (D.pick t (W.two j k ∷ []) []) ≡ true → (t ≡ true) × (W.two a b ≡ W.two j k)
 only-found false a b j k h = absurd (false≢true h)
 only-found true a b j k h = (refl, ⊎-elim (λ e. equal-two a b (W.two j k) e) (λ e. absurd (false≢true e)) (or-cases (eqb a j && eqb b k) false h))
 
-starts-found : (v : D.Part) (a b : ℕ) → W.hasTwo a b (starts v) ≡ true → (a < R.places v) × (b < R.places v) × (starting v a b ≡ true)
+starts-found : (v : D.Part) (a b : ℕ) → W.hasTwo a b (starts v) ≡ true → (a < R.positions v) × (b < R.positions v) × (starting v a b ≡ true)
 starts-found v a b h =
-    let x = row-found (λ i. W.startRow (R.places v) 0 v i) a b (R.places v) 0 (sym (ap (W.hasTwo a b) (starts-are v (R.places v) 0)) ∙ h) in
-    let y = row-found (λ k. D.pick (starting v (x .0) k) (W.two (x .0) k ∷ []) []) a b (R.places v) 0 (sym (ap (W.hasTwo a b) (row-is v (x .0) (R.places v) 0)) ∙ x .2) in
+    let x = row-found (λ i. W.startRow (R.positions v) 0 v i) a b (R.positions v) 0 (sym (ap (W.hasTwo a b) (starts-are v (R.positions v) 0)) ∙ h) in
+    let y = row-found (λ k. D.pick (starting v (x .0) k) (W.two (x .0) k ∷ []) []) a b (R.positions v) 0 (sym (ap (W.hasTwo a b) (row-is v (x .0) (R.positions v) 0)) ∙ x .2) in
     let o = only-found (starting v (x .0) (y .0)) a b (x .0) (y .0) (y .2) in
-    subst (λ (t : W.Two). (t .a < R.places v) × (t .b < R.places v) × (starting v (t .a) (t .b) ≡ true)) (sym (o .1)) (let l = x .1 in omega arith, let m = y .1 in omega arith, o .0)
+    subst (λ (t : W.Two). (t .a < R.positions v) × (t .b < R.positions v) × (starting v (t .a) (t .b) ≡ true)) (sym (o .1)) (let l = x .1 in omega arith, let m = y .1 in omega arith, o .0)
 
-starts-of : (v : D.Part) (a b : ℕ) → a < R.places v → b < R.places v → starting v a b ≡ true → W.hasTwo a b (starts v) ≡ true
+starts-of : (v : D.Part) (a b : ℕ) → a < R.positions v → b < R.positions v → starting v a b ≡ true → W.hasTwo a b (starts v) ≡ true
 starts-of v a b l m h =
-    ap (W.hasTwo a b) (starts-are v (R.places v) 0)
-    ∙ row-of (λ i. W.startRow (R.places v) 0 v i) a b (R.places v) 0 a zero-le (omega arith)
-    (ap (W.hasTwo a b) (row-is v a (R.places v) 0)
-    ∙ row-of (λ k. D.pick (starting v a k) (W.two a k ∷ []) []) a b (R.places v) 0 b zero-le (omega arith)
+    ap (W.hasTwo a b) (starts-are v (R.positions v) 0)
+    ∙ row-of (λ i. W.startRow (R.positions v) 0 v i) a b (R.positions v) 0 a zero-le (omega arith)
+    (ap (W.hasTwo a b) (row-is v a (R.positions v) 0)
+    ∙ row-of (λ k. D.pick (starting v a k) (W.two a k ∷ []) []) a b (R.positions v) 0 b zero-le (omega arith)
     (ap (λ (t : Bool). W.hasTwo a b (D.pick t (W.two a b ∷ []) [])) h ∙ has-head a b []))
 
 -- ---- states at a pair of positions that a list holds
@@ -117,13 +117,13 @@ module _ {p : Part} {v : D.Part} (h : Same p v) where
 
   -- ---- pairs of positions, and steps
 
-  pub placed-of : (a b : ℕ) → a < R.places v → b < R.places v → Placed (graphOf p) (pair (suc a) (suc b))
-  placed-of a b l m = (same-position h a ∙ lt-ltb a (R.places v) l, same-position h b ∙ lt-ltb b (R.places v) m)
+  pub placed-of : (a b : ℕ) → a < R.positions v → b < R.positions v → Placed (graphOf p) (pair (suc a) (suc b))
+  placed-of a b l m = (same-position h a ∙ lt-ltb a (R.positions v) l, same-position h b ∙ lt-ltb b (R.positions v) m)
 
-  pub below : (a : ℕ) → isPosition (graphOf p) (suc a) ≡ true → a < R.places v
-  below a e = ltb-true a (R.places v) (sym (same-position h a) ∙ e)
+  pub below : (a : ℕ) → isPosition (graphOf p) (suc a) ≡ true → a < R.positions v
+  below a e = ltb-true a (R.positions v) (sym (same-position h a) ∙ e)
 
-  pub step-to : (x y c d : ℕ) → nextD v x c ≡ true → nextD v y d ≡ true → W.shares v c d ≡ true → c < R.places v → d < R.places v → Way (Beside (graphOf p)) (pair x y) (pair (suc c) (suc d))
+  pub step-to : (x y c d : ℕ) → nextD v x c ≡ true → nextD v y d ≡ true → W.shares v c d ≡ true → c < R.positions v → d < R.positions v → Way (Beside (graphOf p)) (pair x y) (pair (suc c) (suc d))
   step-to x y c d e f k l m =
       way-step (Beside (graphOf p)) (pair x y) (pair (suc c) (suc d))
       (record { placed = placed-of c d l m; left-next = same-next h x c ∙ e; right-next = same-next h y d ∙ f; share = same-shares c d ∙ k })
@@ -171,20 +171,20 @@ module _ {p : Part} {v : D.Part} (h : Same p v) where
       go false e r = r
 
   -- a chain with no pair twice has no more steps than there are sweeps
-  few : (t z : Pair) → Way (Beside (graphOf p)) t z → (c : List Pair) × Chain (Beside (graphOf p)) t c × (endOf t c ≡ z) × (length c ≤ R.places v * R.places v)
+  few : (t z : Pair) → Way (Beside (graphOf p)) t z → (c : List Pair) × Chain (Beside (graphOf p)) t c × (endOf t c ≡ z) × (length c ≤ R.positions v * R.positions v)
   few t z w =
       let g = graphOf p in
-      let s = short (Beside g) (pairNumber g) (Placed g) (g .places * g .places) (pair-low g) (pair-told g) (λ x y k. k .placed) t z w in
-      (s .nodes, s .goes, s .ends, subst (λ (n : ℕ). length (s .nodes) ≤ n * n) (same-places h) (s .few))
+      let s = short (Beside g) (pairNumber g) (Placed g) (g .positions * g .positions) (pair-low g) (pair-told g) (λ x y k. k .placed) t z w in
+      (s .nodes, s .goes, s .ends, subst (λ (n : ℕ). length (s .nodes) ≤ n * n) (same-positions h) (s .few))
 
-  pub begins-one : (a b : ℕ) → a < R.places v → b < R.places v → Begins (pair (suc a) (suc b)) (W.two a b ∷ [])
+  pub begins-one : (a b : ℕ) → a < R.positions v → b < R.positions v → Begins (pair (suc a) (suc b)) (W.two a b ∷ [])
   begins-one a b l m = record {
     to = reach-leads (pair (suc a) (suc b)) (W.two a b ∷ [])
         (λ c d e. subst (λ (t : W.Two). Leads (pair (suc a) (suc b)) (t .a) (t .b)) (sym (only-found true c d a b e .1)) (record { nodes = []; goes = tt; ends = refl }, placed-of a b l m));
     of = λ c d w.
         let s = few (pair (suc a) (suc b)) (pair (suc c) (suc d)) (w .0) in
         subst (λ (z : Pair). At (W.reach v (W.two a b ∷ [])) (z .left) (z .right)) (s .2)
-        (within (R.places v * R.places v) (W.two a b ∷ []) (pair (suc a) (suc b)) (s .0) (s .1) (s .3) (has-head a b []));
+        (within (R.positions v * R.positions v) (W.two a b ∷ []) (pair (suc a) (suc b)) (s .0) (s .1) (s .3) (has-head a b []));
   }
 
   -- the first step leads to a pair of firsts
@@ -196,10 +196,10 @@ module _ {p : Part} {v : D.Part} (h : Same p v) where
       (and-of (D.isIn a (R.firsts 0 v)) (D.isIn b (R.firsts 0 v) && W.shares v a b) (sym (same-next h 0 a) ∙ k .left-next)
       (and-of (D.isIn b (R.firsts 0 v)) (W.shares v a b) (sym (same-next h 0 b) ∙ k .right-next) (sym (same-shares a b) ∙ k .share)))
 
-  from-firsts : (z : Pair) (c : List Pair) → Chain (Beside (graphOf p)) (pair 0 0) c → endOf (pair 0 0) c ≡ z → length c ≤ R.places v * R.places v → 1 ≤ z .left → At (W.reach v (starts v)) (z .left) (z .right)
+  from-firsts : (z : Pair) (c : List Pair) → Chain (Beside (graphOf p)) (pair 0 0) c → endOf (pair 0 0) c ≡ z → length c ≤ R.positions v * R.positions v → 1 ≤ z .left → At (W.reach v (starts v)) (z .left) (z .right)
   from-firsts z [] w e l m = absurd (omega (arith, ap (λ (x : Pair). x .left) e))
   from-firsts z (y ∷ c) w e l m =
-      subst (λ (x : Pair). At (W.reach v (starts v)) (x .left) (x .right)) e (within (R.places v * R.places v) (starts v) y c (w .1) (omega arith) (first-step (y .left) (y .right) (w .0)))
+      subst (λ (x : Pair). At (W.reach v (starts v)) (x .left) (x .right)) e (within (R.positions v * R.positions v) (starts v) y c (w .1) (omega arith) (first-step (y .left) (y .right) (w .0)))
 
   pub begins-starts : Begins (pair 0 0) (starts v)
   begins-starts = record {

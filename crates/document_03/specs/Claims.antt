@@ -6,8 +6,8 @@ use mathlib.Core.List.{List, [], _∷_, _++_}
 use Prim.Native.Nat.{ℕ, zero, suc, _+_, _-_, _*_, _^_, _≤_}
 use lib.Dec.{eqb, ltb, leb}
 use lib.ListN.{length}
-use Rattle.document_03.specs.Patterns.{Atom, holds, Part, letter, either, joined, again, allLetters, patternFault, patternPart}
-use Rattle.document_03.specs.Readings.{places, isReading, readings, mark, creditAt}
+use Rattle.document_03.specs.Patterns.{Atom, holds, Part, letter, either, joined, again, allLetters, patternRefusal, patternPart}
+use Rattle.document_03.specs.Readings.{positions, isReading, readings, mark, creditAt}
 use Rattle.document_03.specs.Verdicts.{verdict}
 
 -- the pattern's texts, as POSIX defines alternation, joining and repetition

@@ -13,26 +13,26 @@ canBeEmpty (joined p q) = canBeEmpty p && canBeEmpty q
 canBeEmpty (again k p) = ltb k 2 || canBeEmpty p
 
 -- positions of a part that begins at position i
-abbrev pub places : Part → ℕ
-places p = countA (atomsOf p)
+abbrev pub positions : Part → ℕ
+positions p = countA (atomsOf p)
 
 abbrev pub firsts : ℕ → Part → List ℕ
 firsts i (letter a) = i ∷ []
-firsts i (either p q) = firsts i p ++ firsts (i + places p) q
-firsts i (joined p q) = firsts i p ++ pick (canBeEmpty p) (firsts (i + places p) q) []
+firsts i (either p q) = firsts i p ++ firsts (i + positions p) q
+firsts i (joined p q) = firsts i p ++ pick (canBeEmpty p) (firsts (i + positions p) q) []
 firsts i (again k p) = firsts i p
 
 abbrev pub lasts : ℕ → Part → List ℕ
 lasts i (letter a) = i ∷ []
-lasts i (either p q) = lasts i p ++ lasts (i + places p) q
-lasts i (joined p q) = lasts (i + places p) q ++ pick (canBeEmpty q) (lasts i p) []
+lasts i (either p q) = lasts i p ++ lasts (i + positions p) q
+lasts i (joined p q) = lasts (i + positions p) q ++ pick (canBeEmpty q) (lasts i p) []
 lasts i (again k p) = lasts i p
 
 -- may b come right after a
 abbrev pub follows : ℕ → Part → ℕ → ℕ → Bool
 follows i (letter x) a b = false
-follows i (either p q) a b = follows i p a b || follows (i + places p) q a b
-follows i (joined p q) a b = follows i p a b || (follows (i + places p) q a b || (isIn a (lasts i p) && isIn b (firsts (i + places p) q)))
+follows i (either p q) a b = follows i p a b || follows (i + positions p) q a b
+follows i (joined p q) a b = follows i p a b || (follows (i + positions p) q a b || (isIn a (lasts i p) && isIn b (firsts (i + positions p) q)))
 follows i (again k p) a b = follows i p a b || (leb 1 k && (isIn a (lasts i p) && isIn b (firsts i p)))
 
 abbrev pub nthA : List Atom → ℕ → Atom
@@ -51,13 +51,13 @@ abbrev pub goesOn : Part → ℕ → List ℕ → List ℕ → Bool
 goesOn p a [] [] = isIn a (lasts 0 p)
 goesOn p a [] (i ∷ is) = false
 goesOn p a (b ∷ s) [] = false
-goesOn p a (b ∷ s) (i ∷ is) = ltb i (places p) && (follows 0 p a i && (holdsAt p i b && goesOn p i s is))
+goesOn p a (b ∷ s) (i ∷ is) = ltb i (positions p) && (follows 0 p a i && (holdsAt p i b && goesOn p i s is))
 
 abbrev pub isReading : Part → List ℕ → List ℕ → Bool
 isReading p [] [] = canBeEmpty p
 isReading p [] (i ∷ is) = false
 isReading p (b ∷ s) [] = false
-isReading p (b ∷ s) (i ∷ is) = ltb i (places p) && (isIn i (firsts 0 p) && (holdsAt p i b && goesOn p i s is))
+isReading p (b ∷ s) (i ∷ is) = ltb i (positions p) && (isIn i (firsts 0 p) && (holdsAt p i b && goesOn p i s is))
 
 abbrev pub sumOver : ℕ → ℕ → (ℕ → ℕ) → ℕ
 sumOver zero i f = 0
@@ -66,11 +66,11 @@ sumOver (suc n) i f = f i + sumOver n (suc i) f
 -- all readings, counted position by position
 abbrev pub countAfter : List ℕ → Part → ℕ → ℕ
 countAfter [] p a = when (isIn a (lasts 0 p)) 1
-countAfter (b ∷ s) p a = sumOver (places p) 0 (λ i. pick (follows 0 p a i && holdsAt p i b) (countAfter s p i) 0)
+countAfter (b ∷ s) p a = sumOver (positions p) 0 (λ i. pick (follows 0 p a i && holdsAt p i b) (countAfter s p i) 0)
 
 abbrev pub readings : Part → List ℕ → ℕ
 readings p [] = when (canBeEmpty p) 1
-readings p (b ∷ s) = sumOver (places p) 0 (λ i. pick (isIn i (firsts 0 p) && holdsAt p i b) (countAfter s p i) 0)
+readings p (b ∷ s) = sumOver (positions p) 0 (λ i. pick (isIn i (firsts 0 p) && holdsAt p i b) (countAfter s p i) 0)
 
 -- the most credit of one reading plus 1, 0 for none
 abbrev pub larger : ℕ → ℕ → ℕ
@@ -86,8 +86,8 @@ added c (suc m) = suc (c + m)
 
 abbrev pub bestAfter : List ℕ → Part → ℕ → ℕ
 bestAfter [] p a = when (isIn a (lasts 0 p)) 1
-bestAfter (b ∷ s) p a = bestOver (places p) 0 (λ i. pick (follows 0 p a i && holdsAt p i b) (added (creditAt p i) (bestAfter s p i)) 0)
+bestAfter (b ∷ s) p a = bestOver (positions p) 0 (λ i. pick (follows 0 p a i && holdsAt p i b) (added (creditAt p i) (bestAfter s p i)) 0)
 
 abbrev pub mark : Part → List ℕ → ℕ
 mark p [] = 0
-mark p (b ∷ s) = bestOver (places p) 0 (λ i. pick (isIn i (firsts 0 p) && holdsAt p i b) (added (creditAt p i) (bestAfter s p i)) 0) - 1
+mark p (b ∷ s) = bestOver (positions p) 0 (λ i. pick (isIn i (firsts 0 p) && holdsAt p i b) (added (creditAt p i) (bestAfter s p i)) 0) - 1

@@ -5,7 +5,7 @@ use Prim.Native.Nat.{ℕ, zero, suc, _+_, _-_, _*_}
 use lib.Dec.{eqb, ltb, leb}
 use lib.ListN.{length}
 use Rattle.document_03.specs.Patterns.{pick, when, isIn, Part}
-use Rattle.document_03.specs.Readings.{places, firsts, lasts, follows, holdsAt}
+use Rattle.document_03.specs.Readings.{positions, firsts, lasts, follows, holdsAt}
 
 pub record Two : Type 0 where
   pub a : ℕ
@@ -37,7 +37,7 @@ growRow (suc n) b p a seen = growRow n (suc b) p a (pick (not (hasTwo a b seen) 
 
 abbrev pub growRows : ℕ → ℕ → Part → List Two → List Two
 growRows zero a p seen = seen
-growRows (suc n) a p seen = growRows n (suc a) p (growRow (places p) 0 p a seen)
+growRows (suc n) a p seen = growRows n (suc a) p (growRow (positions p) 0 p a seen)
 
 abbrev pub countT : List Two → ℕ
 countT [] = 0
@@ -45,10 +45,10 @@ countT (t ∷ ts) = suc (countT ts)
 
 abbrev pub reachFrom : ℕ → Part → List Two → List Two
 reachFrom zero p seen = seen
-reachFrom (suc n) p seen = let new = growRows (places p) 0 p seen in elim (eqb (countT new) (countT seen)) [ true ↦ seen | false ↦ reachFrom n p new ]
+reachFrom (suc n) p seen = let new = growRows (positions p) 0 p seen in elim (eqb (countT new) (countT seen)) [ true ↦ seen | false ↦ reachFrom n p new ]
 
 abbrev pub reach : Part → List Two → List Two
-reach p ts = reachFrom (places p * places p) p ts
+reach p ts = reachFrom (positions p * positions p) p ts
 
 abbrev pub joinT : List Two → List Two → List Two
 joinT [] ys = ys
@@ -61,7 +61,7 @@ startRow (suc n) b p a = joinT (pick (isIn a (firsts 0 p) && (isIn b (firsts 0 p
 
 abbrev pub startsFrom : ℕ → ℕ → Part → List Two
 startsFrom zero a p = []
-startsFrom (suc n) a p = joinT (startRow (places p) 0 p a) (startsFrom n (suc a) p)
+startsFrom (suc n) a p = joinT (startRow (positions p) 0 p a) (startsFrom n (suc a) p)
 
 -- does some pair of lasts lie in a list
 abbrev pub endsIn : Part → List Two → Bool
@@ -74,7 +74,7 @@ partsAndEnds p [] = false
 partsAndEnds p (t ∷ ts) = (not (eqb (t .a) (t .b)) && endsIn p (reach p (t ∷ []))) || partsAndEnds p ts
 
 abbrev pub ambiguous : Part → Bool
-ambiguous p = partsAndEnds p (reach p (startsFrom (places p) 0 p))
+ambiguous p = partsAndEnds p (reach p (startsFrom (positions p) 0 p))
 
 -- a pivot: two different loops back to itself over one text
 abbrev pub loopsBack : Part → ℕ → List Two → Bool
@@ -89,7 +89,7 @@ pivotFrom zero q p = false
 pivotFrom (suc n) q p = isPivot p q || pivotFrom n (suc q) p
 
 abbrev pub hasPivot : Part → Bool
-hasPivot p = pivotFrom (places p) 0 p
+hasPivot p = pivotFrom (positions p) 0 p
 
 -- the first pivot in rising order, plus 1; 0 for none
 abbrev pub firstPivotFrom : ℕ → ℕ → Part → ℕ
@@ -97,7 +97,7 @@ firstPivotFrom zero q p = 0
 firstPivotFrom (suc n) q p = elim (isPivot p q) [ true ↦ suc q | false ↦ firstPivotFrom n (suc q) p ]
 
 abbrev pub firstPivot : Part → ℕ
-firstPivot p = firstPivotFrom (places p) 0 p
+firstPivot p = firstPivotFrom (positions p) 0 p
 
 -- letters shown: at each step the lowest that the sets of both positions hold
 abbrev pub lowestFrom : ℕ → ℕ → Part → ℕ → ℕ → ℕ

@@ -11,7 +11,7 @@ use Rattle.basics.proofs.Tests.{and-parts, by-test}
 use Rattle.bits.specs.Bits.{hasBit}
 use Rattle.bits.proofs.Laws.{lt-of-high}
 use Rattle.graph.specs.Graph.{noGraph, Bounded}
-use Rattle.graph.specs.Built.{shows}
+use Rattle.graph.specs.Built.{graphOfBuilt}
 use Rattle.graph.specs.declared.Built.{Built}
 
 pub none-bounded : Bounded noGraph
@@ -29,11 +29,11 @@ none-bounded = record {
 below : (m : ℕ) → m < 2 ^ 64 → ((j : ℕ) → hasBit m j ≡ true → j ≤ 60) → m < 2 ^ 61
 below m l h = lt-of-high 61 m l (λ j k. by-test (hasBit m j) (λ e. absurd (omega (arith, h j e))) (λ e. e))
 
-module _ (b : Built) (h : Bounded (shows b)) where
+module _ (b : Built) (h : Bounded (graphOfBuilt b)) where
   pub row-below : (u : ℕ) → getD (b .follow) u 0 < 2 ^ 64 → getD (b .follow) u 0 < 2 ^ 61
   row-below u l =
       below (getD (b .follow) u 0) l
-      (λ j e. let p = leb-true j (b .places) (and-parts (leb 1 j) (leb j (b .places)) (h .next-to u j e) .1) in let f = h .few in omega arith)
+      (λ j e. let p = leb-true j (b .positions) (and-parts (leb 1 j) (leb j (b .positions)) (h .next-to u j e) .1) in let f = h .few in omega arith)
 
   pub lasts-below : b .lasts < 2 ^ 64 → b .lasts < 2 ^ 61
   lasts-below l = below (b .lasts) l (λ j e. let p = h .last-from j e in let f = h .few in omega arith)

@@ -47,7 +47,7 @@ module _ (g : Graph) where
   -- the readings of the letters to come, at a state
   abbrev all : ℕ → List ℕ → List (List ℕ)
   all u [] = if g .last u then [] ∷ [] else []
-  all u (b ∷ s) = joined (step g u b) (λ i. heads i (all i s)) (suc (g .places))
+  all u (b ∷ s) = joined (step g u b) (λ i. heads i (all i s)) (suc (g .positions))
 
   all-length : (s : List ℕ) (u : ℕ) → length (all u s) ≡ countFrom g u s
   all-length [] u = by-last (g .last u)
@@ -56,8 +56,8 @@ module _ (g : Graph) where
       by-last true = refl
       by-last false = refl
   all-length (b ∷ s) u =
-      fold-through [] _++_ 0 _+_ length refl length-append (step g u b) (λ i. heads i (all i s)) (suc (g .places))
-      ∙ fold-same 0 _+_ (step g u b) (step g u b) (λ i. length (heads i (all i s))) (λ i. countFrom g i s) (suc (g .places)) (λ i l. refl)
+      fold-through [] _++_ 0 _+_ length refl length-append (step g u b) (λ i. heads i (all i s)) (suc (g .positions))
+      ∙ fold-same 0 _+_ (step g u b) (step g u b) (λ i. length (heads i (all i s))) (λ i. countFrom g i s) (suc (g .positions)) (λ i l. refl)
       (λ i l e. length-map (all i s) (λ (r : List ℕ). i ∷ r) ∙ all-length s i)
 
   all-apart : (s : List ℕ) (u : ℕ) → Apart (all u s)
@@ -69,12 +69,12 @@ module _ (g : Graph) where
       (each-all (λ (r : List ℕ). Each (λ (y : List ℕ). (i ∷ r) ≡ y → ⊥) (heads j (all j s)))
       (λ r. map-each (λ (q : List ℕ). j ∷ q) (λ (y : List ℕ). (i ∷ r) ≡ y → ⊥) (all j s)
       (each-all (λ (q : List ℕ). (i ∷ r) ≡ (j ∷ q) → ⊥) (λ q e. let z = head-eq-of-cons-eq e in omega arith) (all j s))) (all i s)))
-      (suc (g .places))
+      (suc (g .positions))
 
   all-reads : (s : List ℕ) (u : ℕ) → Each (λ (r : List ℕ). readsFrom g u s r ≡ true) (all u s)
   all-reads [] u = if-either (Each (λ (r : List ℕ). readsFrom g u [] r ≡ true)) ([] ∷ []) [] (g .last u) (λ e. (e, tt)) (λ e. tt)
   all-reads (b ∷ s) u =
-      joined-each (step g u b) (λ i. heads i (all i s)) (λ (r : List ℕ). readsFrom g u (b ∷ s) r ≡ true) (suc (g .places))
+      joined-each (step g u b) (λ i. heads i (all i s)) (λ (r : List ℕ). readsFrom g u (b ∷ s) r ≡ true) (suc (g .positions))
       (λ i l e. map-each (λ (r : List ℕ). i ∷ r) (λ (r : List ℕ). readsFrom g u (b ∷ s) r ≡ true) (all i s)
       (each-map (λ (r : List ℕ). readsFrom g i s r ≡ true) (λ (r : List ℕ). readsFrom g u (b ∷ s) (i ∷ r) ≡ true) (λ r h. and-of (step g u b i) (readsFrom g i s r) e h) (all i s) (all-reads s i)))
 
@@ -85,7 +85,7 @@ module _ (g : Graph) where
   all-in (b ∷ s) u (i ∷ r) h =
       let p = and-parts (step g u b i) (readsFrom g i s r) h in
       let l = position-of g i (step-parts g u b i (p .0) .0) .1 in
-      joined-in (step g u b) (λ j. heads j (all j s)) (i ∷ r) (suc (g .places)) i (omega arith) (p .0) (map-in (λ (q : List ℕ). i ∷ q) r (all i s) (all-in s i r (p .1)))
+      joined-in (step g u b) (λ j. heads j (all j s)) (i ∷ r) (suc (g .positions)) i (omega arith) (p .0) (map-in (λ (q : List ℕ). i ∷ q) r (all i s) (all-in s i r (p .1)))
 
   -- ---- what follows for a whole answer
 

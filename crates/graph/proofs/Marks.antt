@@ -31,12 +31,12 @@ module _ (g : Graph) where
       let p = and-parts (step g u b i) (readsFrom g i s r) h in
       let l = position-of g i (step-parts g u b i (p .0) .0) .1 in
       le-trans (added-above (g .credit i) (creditOf g r) (bestFrom g i s) (best-above s i r (p .1)))
-      (most-above (step g u b) (λ j. added (g .credit j) (bestFrom g j s)) (suc (g .places)) i (omega arith) (p .0))
+      (most-above (step g u b) (λ j. added (g .credit j) (bestFrom g j s)) (suc (g .positions)) i (omega arith) (p .0))
 
   best-earned : (s : List ℕ) (u : ℕ) → 1 ≤ bestFrom g u s → (r : List ℕ) × (readsFrom g u s r ≡ true) × (suc (creditOf g r) ≡ bestFrom g u s)
   best-earned [] u h = by-test (g .last u) (λ e. ([], e, sym (if-yes {A = ℕ} 1 0 (g .last u) e))) (λ e. let z = if-no {A = ℕ} 1 0 (g .last u) e in absurd (omega arith))
   best-earned (b ∷ s) u h =
-      let m = most-found (step g u b) (λ j. added (g .credit j) (bestFrom g j s)) (suc (g .places)) h in
+      let m = most-found (step g u b) (λ j. added (g .credit j) (bestFrom g j s)) (suc (g .positions)) h in
       let i = m .0 in
       let e = m .3 in
       let a = added-some (g .credit i) (bestFrom g i s) (omega arith) in

@@ -15,11 +15,11 @@ use Rattle.basics.proofs.Lists.{end-append}
 use Rattle.graph.specs.Graph.{Graph, isPosition, step}
 use Rattle.graph.specs.Readings.{readsFrom}
 
-pub position-of : (g : Graph) (i : ℕ) → isPosition g i ≡ true → (1 ≤ i) × (i ≤ g .places)
-position-of g i h = let p = and-parts (leb 1 i) (leb i (g .places)) h in (leb-true 1 i (p .0), leb-true i (g .places) (p .1))
+pub position-of : (g : Graph) (i : ℕ) → isPosition g i ≡ true → (1 ≤ i) × (i ≤ g .positions)
+position-of g i h = let p = and-parts (leb 1 i) (leb i (g .positions)) h in (leb-true 1 i (p .0), leb-true i (g .positions) (p .1))
 
-pub is-position : (g : Graph) (i : ℕ) → 1 ≤ i → i ≤ g .places → isPosition g i ≡ true
-is-position g i l h = and-of (leb 1 i) (leb i (g .places)) (le-leb 1 i l) (le-leb i (g .places) h)
+pub is-position : (g : Graph) (i : ℕ) → 1 ≤ i → i ≤ g .positions → isPosition g i ≡ true
+is-position g i l h = and-of (leb 1 i) (leb i (g .positions)) (le-leb 1 i l) (le-leb i (g .positions) h)
 
 -- what a step is: a position, one that may come next, one whose set holds the letter
 pub step-parts : (g : Graph) (u b i : ℕ) → step g u b i ≡ true → (isPosition g i ≡ true) × (g .next u i ≡ true) × (g .holds i b ≡ true)

@@ -11,9 +11,9 @@ use Rattle.graph.specs.declared.Built.{Built}
 abbrev pub setAt : List LetterSet → ℕ → LetterSet
 setAt sets i = getD sets i record { low = 0; high = 0 }
 
-abbrev pub shows : Built → Graph
-shows b = record {
-  places = b .places;
+abbrev pub graphOfBuilt : Built → Graph
+graphOfBuilt b = record {
+  positions = b .positions;
   next = λ u i. hasBit (getD (b .follow) u 0) i;
   last = λ u. hasBit (b .lasts) u;
   holds = λ i c. hasLetter (setAt (b .letters) i) c;

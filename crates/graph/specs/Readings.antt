@@ -26,7 +26,7 @@ creditOf g (i ∷ r) = g .credit i + creditOf g r
 -- [Counts] the number of readings, not yet cut at 2^63: the sum, over the positions that may come next, of the numbers from there
 abbrev pub countFrom : Graph → ℕ → List ℕ → ℕ
 countFrom g u [] = if g .last u then 1 else 0
-countFrom g u (b ∷ s) = sumIf (step g u b) (λ i. countFrom g i s) (suc (g .places))
+countFrom g u (b ∷ s) = sumIf (step g u b) (λ i. countFrom g i s) (suc (g .positions))
 
 abbrev pub readings : Graph → List ℕ → ℕ
 readings g s = countFrom g 0 s
@@ -38,7 +38,7 @@ added c (suc m) = suc (c + m)
 
 abbrev pub bestFrom : Graph → ℕ → List ℕ → ℕ
 bestFrom g u [] = if g .last u then 1 else 0
-bestFrom g u (b ∷ s) = mostIf (step g u b) (λ i. added (g .credit i) (bestFrom g i s)) (suc (g .places))
+bestFrom g u (b ∷ s) = mostIf (step g u b) (λ i. added (g .credit i) (bestFrom g i s)) (suc (g .positions))
 
 -- [Marks] the most that a reading earns, 0 where there is none
 abbrev pub mark : Graph → List ℕ → ℕ

@@ -19,11 +19,11 @@ module _ (g : Graph) where
     pub way-in : List ℕ
     pub goes-in : Route 0 way-in
     pub comes : endOf 0 way-in ≡ q
-    pub short-in : length way-in ≤ g .places
+    pub short-in : length way-in ≤ g .positions
     pub way-out : List ℕ
     pub goes-out : Route q way-out
     pub ends : g .last (endOf q way-out) ≡ true
-    pub short-out : length way-out ≤ g .places
+    pub short-out : length way-out ≤ g .positions
 
   pub record Trim : Type 0 where
     pub letters : (i c : ℕ) → g .holds i c ≡ true → isLetter c ≡ true

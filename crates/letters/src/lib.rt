@@ -38,7 +38,7 @@ pub struct LetterSet {
 }
 
 // The empty set.
-pub fn none() -> LetterSet
+pub fn empty() -> LetterSet
     ensures { λ r. ⌜ ((c : ℕ) → hasLetter r c ≡ false) ⌝ }
 {
     LetterSet { low: 0, high: 0 }
@@ -61,7 +61,7 @@ pub fn has(s: LetterSet, code: u8) -> bool
 }
 
 // The letters of s and those of t.
-pub fn joined(s: LetterSet, t: LetterSet) -> LetterSet
+pub fn union(s: LetterSet, t: LetterSet) -> LetterSet
     ensures { λ r. ⌜ ((c : ℕ) → hasLetter r c ≡ (hasLetter s c || hasLetter t c)) ⌝ }
 {
     LetterSet {
@@ -71,7 +71,7 @@ pub fn joined(s: LetterSet, t: LetterSet) -> LetterSet
 }
 
 // The letters of s that are in t.
-pub fn both(s: LetterSet, t: LetterSet) -> LetterSet
+pub fn intersection(s: LetterSet, t: LetterSet) -> LetterSet
     ensures { λ r. ⌜ ((c : ℕ) → hasLetter r c ≡ (hasLetter s c && hasLetter t c)) ⌝ }
 {
     LetterSet {
@@ -81,7 +81,7 @@ pub fn both(s: LetterSet, t: LetterSet) -> LetterSet
 }
 
 // The letters that are not in s. Each of the 64 codes of `low` is a letter, and the first 31 of `high`.
-pub fn others(s: LetterSet) -> LetterSet
+pub fn complement(s: LetterSet) -> LetterSet
     ensures { λ r. ⌜ ((c : ℕ) → hasLetter r c ≡ (isLetter c && not (hasLetter s c))) ⌝ }
 {
     LetterSet {
@@ -133,7 +133,7 @@ fn cut(code: u8, base: u8) -> usize
 }
 
 // Has the set no letter.
-pub fn is_none(s: LetterSet) -> bool
+pub fn is_empty(s: LetterSet) -> bool
     ensures { λ r. ⌜ (r ≡ true → (c : ℕ) → hasLetter s c ≡ false) × (r ≡ false → Some s) ⌝ }
 {
     s.low == 0 && s.high == 0

@@ -9,8 +9,8 @@ use lib.Seq.{sets}
 use Rattle.basics.specs.Choice.{if_then_else_}
 use Rattle.basics.specs.Bytes.{codes}
 use Rattle.pattern.specs.Grammar.{patternPart}
-use Rattle.pattern.specs.Positions.{places, patternGraph}
-use Rattle.pattern.specs.Refusals.{patternFault}
+use Rattle.pattern.specs.Positions.{positions, patternGraph}
+use Rattle.pattern.specs.Refusals.{patternRefusal}
 use Rattle.verdict.specs.Verdict.{verdict}
 use Rattle.lines.specs.declared.Run.{Run}
 
@@ -41,7 +41,7 @@ fields n w k = decimal n ++ (codes " " ++ (w ++ (codes " " ++ (decimal k ++ newl
 
 -- [Output lines] the line for the pattern s: the verdict's word and the number of positions, or `refused` and the refusal's number
 unfoldable pub lineOf : ℕ → List ℕ → List ℕ
-lineOf n s = if eqb (patternFault s) 0 then fields n (word (verdict (patternGraph s))) (places (patternPart s)) else fields n (codes "refused") (patternFault s)
+lineOf n s = if eqb (patternRefusal s) 0 then fields n (word (verdict (patternGraph s))) (positions (patternPart s)) else fields n (codes "refused") (patternRefusal s)
 
 -- ---- the input's patterns
 

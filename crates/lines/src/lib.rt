@@ -61,12 +61,12 @@ fn put_line(
         return put_fields(number, b"refused", v.refusal, out, at);
     }
     if v.verdict == 0 {
-        return put_fields(number, b"single", v.places, out, at);
+        return put_fields(number, b"single", v.positions, out, at);
     }
     if v.verdict == 1 {
-        return put_fields(number, b"steady", v.places, out, at);
+        return put_fields(number, b"steady", v.positions, out, at);
     }
-    put_fields(number, b"runaway", v.places, out, at)
+    put_fields(number, b"runaway", v.positions, out, at)
 }
 
 // Where the pattern ends that begins at byte `from`: at the next byte 10, or at the input's end.

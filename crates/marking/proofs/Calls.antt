@@ -16,8 +16,8 @@ use Rattle.letters.specs.Alphabet.{allLetters}
 use Rattle.graph.specs.Readings.{isReading, readings, creditOf, mark}
 use Rattle.graph.proofs.Counting.{reading-counts, count-reading}
 use Rattle.pattern.specs.Grammar.{patternPart}
-use Rattle.pattern.specs.Refusals.{patternFault}
-use Rattle.pattern.specs.Positions.{places, patternGraph}
+use Rattle.pattern.specs.Refusals.{patternRefusal}
+use Rattle.pattern.specs.Positions.{positions, patternGraph}
 use Rattle.pattern.specs.Texts.{Text}
 use Rattle.verdict.specs.Verdict.{verdict}
 use Rattle.verdict.specs.Evidence.{times, ShowsSteady, ShowsRunaway}
@@ -25,8 +25,8 @@ use Rattle.verdict.specs.Answers.{Begins, ShowsBy}
 use Rattle.marks.specs.declared.Marked.{Marked}
 use Rattle.walk.specs.declared.Vetted.{Vetted}
 use Rattle.marking.specs.Packing.{field, vetUnpacked, markUnpacked}
-use Rattle.marking.specs.Marking.{markFault, MarkSays, MarkForC}
-use Rattle.marking.specs.Vetting.{vetFault, refused, VetSays, VetForC, VetAlone}
+use Rattle.marking.specs.Marking.{markRefusal, MarkSays, MarkForC}
+use Rattle.marking.specs.Vetting.{vetRefusal, refused, VetSays, VetForC, VetAlone}
 use Rattle.marking.proofs.Demands as Demands
 use Rattle.marking.proofs.Marking as Marking
 use Rattle.marking.proofs.Packing.{vet-fields, vet-unpacks, mark-fields, mark-unpacks}
@@ -47,10 +47,10 @@ pub record TrueMark (b s : List ℕ) (r : Marked) : Type 0 where
 
 pub record MarkKeeps (b s : List ℕ) (r : Marked) : Type 0 where
   -- Demand 1: each refusal under its own condition and no other; and it is a number and nothing else.
-  pub refusal-is : r .refusal ≡ markFault b s
+  pub refusal-is : r .refusal ≡ markRefusal b s
   pub refusal-alone : (r .refusal ≡ 0 → ⊥) → (r .count ≡ 0) × (r .mark ≡ 0)
   -- An accepted pattern always gets a mark, of any answer of up to 4,096 letters.
-  pub accepted-gets-mark : patternFault b ≡ 0 → length s ≤ 4096 → allLetters s ≡ true → r .refusal ≡ 0
+  pub accepted-gets-mark : patternRefusal b ≡ 0 → length s ≤ 4096 → allLetters s ≡ true → r .refusal ≡ 0
   pub true-mark : r .refusal ≡ 0 → TrueMark b s r
 
 -- ==== What is said of vetting; e and e′ are the evidence before and after, w and w′ the scratch
@@ -60,12 +60,12 @@ pub record MarkKeeps (b s : List ℕ) (r : Marked) : Type 0 where
 pub record SteadyText (b e e′ : List ℕ) (r : Vetted) : Type 0 where
   pub text : List ℕ
   pub letters : allLetters text ≡ true
-  pub short : length text ≤ r .places * r .places + r .places
+  pub short : length text ≤ r .positions * r .positions + r .positions
   pub first : r .first ≡ length text
   pub second : r .second ≡ 0
   pub third : r .third ≡ 0
   pub written : Begins text e e′
-  pub shows : ShowsSteady (patternGraph b) text
+  pub graphOfBuilt : ShowsSteady (patternGraph b) text
   pub two-readings : 2 ≤ readings (patternGraph b) text
 
 -- Called runaway, x, y and z stand there one after the other: letters, 1 to p of x, 1 to p² + p of y, at most p of z. x leads to the first
@@ -77,44 +77,44 @@ pub record RunawayTexts (b e e′ : List ℕ) (r : Vetted) : Type 0 where
   pub z : List ℕ
   pub letters : allLetters (x ++ (y ++ z)) ≡ true
   pub some-x : 1 ≤ length x
-  pub short-x : length x ≤ r .places
+  pub short-x : length x ≤ r .positions
   pub some-y : 1 ≤ length y
-  pub short-y : length y ≤ r .places * r .places + r .places
-  pub short-z : length z ≤ r .places
+  pub short-y : length y ≤ r .positions * r .positions + r .positions
+  pub short-z : length z ≤ r .positions
   pub first : r .first ≡ length x
   pub second : r .second ≡ length y
   pub third : r .third ≡ length z
   pub written : Begins (x ++ (y ++ z)) e e′
-  pub shows : ShowsRunaway (patternGraph b) x y z
+  pub graphOfBuilt : ShowsRunaway (patternGraph b) x y z
   pub readings-double : (k : ℕ) → 2 ^ k ≤ readings (patternGraph b) (x ++ (times k y ++ z))
 
 -- Demand 3, where nothing is refused.
 pub record TrueVerdict (b e e′ : List ℕ) (r : Vetted) : Type 0 where
   -- The verdict and p are those of the pattern alone, whatever the lent memory held.
   pub verdict-is : r .verdict ≡ verdict (patternGraph b)
-  pub places-is : r .places ≡ places (patternPart b)
+  pub positions-is : r .positions ≡ positions (patternPart b)
   -- Single exactly when no answer that anyone could write has two readings; then nothing is shown, and the evidence is as before.
   pub single-exactly : (r .verdict ≡ 0) ↔ ((s : List ℕ) → allLetters s ≡ true → readings (patternGraph b) s ≤ 1)
-  pub single-shows : r .verdict ≡ 0 → (r .first ≡ 0) × (r .second ≡ 0) × (r .third ≡ 0) × (e′ ≡ e)
+  pub single-graphOfBuilt : r .verdict ≡ 0 → (r .first ≡ 0) × (r .second ≡ 0) × (r .third ≡ 0) × (e′ ≡ e)
   -- Steady: an answer of m letters has at most (m + 2)^(2p), p being what the call gave.
-  pub steady-allows : r .verdict ≡ 1 → (s : List ℕ) → readings (patternGraph b) s ≤ (length s + 2) ^ (2 * r .places)
-  pub steady-shows : r .verdict ≡ 1 → SteadyText b e e′ r
-  pub runaway-shows : r .verdict ≡ 2 → RunawayTexts b e e′ r
+  pub steady-allows : r .verdict ≡ 1 → (s : List ℕ) → readings (patternGraph b) s ≤ (length s + 2) ^ (2 * r .positions)
+  pub steady-graphOfBuilt : r .verdict ≡ 1 → SteadyText b e e′ r
+  pub runaway-graphOfBuilt : r .verdict ≡ 2 → RunawayTexts b e e′ r
   -- There is no fourth.
   pub verdict-low : r .verdict ≤ 2
 
 pub record VetKeeps (b e e′ w w′ : List ℕ) (r : Vetted) : Type 0 where
   -- Demand 1: each refusal under its own condition and no other; it is a number and nothing else, and leaves all lent memory as it was.
-  pub refusal-is : r .refusal ≡ vetFault b (length e) (length w)
+  pub refusal-is : r .refusal ≡ vetRefusal b (length e) (length w)
   pub refusal-alone : (r .refusal ≡ 0 → ⊥) → r ≡ refused (r .refusal)
   pub refusal-keeps : (r .refusal ≡ 0 → ⊥) → (e′ ≡ e) × (w′ ≡ w)
   -- An accepted pattern with enough memory always gets a verdict.
-  pub accepted-gets-verdict : patternFault b ≡ 0 → 4096 ≤ length e → 8192 ≤ length w → r .refusal ≡ 0
+  pub accepted-gets-verdict : patternRefusal b ≡ 0 → 4096 ≤ length e → 8192 ≤ length w → r .refusal ≡ 0
   pub true-verdict : r .refusal ≡ 0 → TrueVerdict b e e′ r
 
 -- Two vettings of one pattern, by any of the calls and in any two memories, give the same verdict and p.
-pub same-verdict : {b e e′ f f′ : List ℕ} {r q : Vetted} → TrueVerdict b e e′ r → TrueVerdict b f f′ q → (r .verdict ≡ q .verdict) × (r .places ≡ q .places)
-same-verdict t u = (t .verdict-is ∙ sym (u .verdict-is), t .places-is ∙ sym (u .places-is))
+pub same-verdict : {b e e′ f f′ : List ℕ} {r q : Vetted} → TrueVerdict b e e′ r → TrueVerdict b f f′ q → (r .verdict ≡ q .verdict) × (r .positions ≡ q .positions)
+same-verdict t u = (t .verdict-is ∙ sym (u .verdict-is), t .positions-is ∙ sym (u .positions-is))
 
 -- ==== Each call keeps it
 
@@ -123,11 +123,11 @@ same-verdict t u = (t .verdict-is ∙ sym (u .verdict-is), t .places-is ∙ sym 
 module _ (b s : List ℕ) (r : Marked) (says : MarkSays b s r) where
   true-mark : r .refusal ≡ 0 → TrueMark b s r
   true-mark given =
-      let none : markFault b s ≡ 0 = sym (says .refusal) ∙ given in
+      let none : markRefusal b s ≡ 0 = sym (says .refusal) ∙ given in
       let a = Marking.pattern-accepted b s none in
-      let yes = eq-eqb (markFault b s) 0 none in
-      let count : r .count ≡ min (readings (patternGraph b) s) (2 ^ 63) = says .count ∙ if-yes (min (readings (patternGraph b) s) (2 ^ 63)) 0 (eqb (markFault b s) 0) yes in
-      let best : r .mark ≡ mark (patternGraph b) s = says .mark ∙ if-yes (mark (patternGraph b) s) 0 (eqb (markFault b s) 0) yes in
+      let yes = eq-eqb (markRefusal b s) 0 none in
+      let count : r .count ≡ min (readings (patternGraph b) s) (2 ^ 63) = says .count ∙ if-yes (min (readings (patternGraph b) s) (2 ^ 63)) 0 (eqb (markRefusal b s) 0) yes in
+      let best : r .mark ≡ mark (patternGraph b) s = says .mark ∙ if-yes (mark (patternGraph b) s) 0 (eqb (markRefusal b s) 0) yes in
       let some : 1 ≤ r .count → 1 ≤ readings (patternGraph b) s = λ l. omega arith in
       record {
         counts-exactly-texts = (
@@ -145,8 +145,8 @@ module _ (b s : List ℕ) (r : Marked) (says : MarkSays b s r) where
   mark-answer-keeps = record {
     refusal-is = says .refusal;
     refusal-alone = λ d.
-        let no = ne-eqb (markFault b s) 0 (λ z. d (says .refusal ∙ z)) in
-        (says .count ∙ if-no (min (readings (patternGraph b) s) (2 ^ 63)) 0 (eqb (markFault b s) 0) no, says .mark ∙ if-no (mark (patternGraph b) s) 0 (eqb (markFault b s) 0) no);
+        let no = ne-eqb (markRefusal b s) 0 (λ z. d (says .refusal ∙ z)) in
+        (says .count ∙ if-no (min (readings (patternGraph b) s) (2 ^ 63)) 0 (eqb (markRefusal b s) 0) no, says .mark ∙ if-no (mark (patternGraph b) s) 0 (eqb (markRefusal b s) 0) no);
     accepted-gets-mark = λ a l t. says .refusal ∙ Marking.accepted b s a l t;
     true-mark = true-mark;
   }
@@ -172,47 +172,47 @@ module _ (b e e′ w w′ : List ℕ) (r : Vetted) (says : VetSays b e e′ w w�
       let a = Vetting.accepted b e e′ w w′ r says given in
       let judged = Vetting.answered b e e′ w w′ r says given .judged in
       let said = judged .vets .verdict-is in
-      let p = sym (judged .places) in
+      let p = sym (judged .positions) in
       let shown : (v : ℕ) → r .verdict ≡ v → ShowsBy v (patternGraph b) e e′ (r .first) (r .second) (r .third) =
-      λ v is. subst (λ (k : ℕ). ShowsBy k (patternGraph b) e e′ (r .first) (r .second) (r .third)) is (judged .vets .shows) in
+      λ v is. subst (λ (k : ℕ). ShowsBy k (patternGraph b) e e′ (r .first) (r .second) (r .third)) is (judged .vets .graphOfBuilt) in
       record {
         verdict-is = said;
-        places-is = judged .places;
+        positions-is = judged .positions;
         single-exactly = (λ v. Demands.single-allows-one b a .0 (sym said ∙ v), λ h. said ∙ Demands.single-allows-one b a .1 h);
-        single-shows = λ v. let t = shown 0 v in (t .first, t .second, t .third, t .kept);
+        single-graphOfBuilt = λ v. let t = shown 0 v in (t .first, t .second, t .third, t .kept);
         steady-allows = λ v s.
             subst (λ (n : ℕ). readings (patternGraph b) s ≤ (length s + 2) ^ (2 * n)) p (Demands.steady-allows b s a (λ t. let f = sym v ∙ said ∙ t in absurd (omega arith)));
-        steady-shows = λ v.
+        steady-graphOfBuilt = λ v.
             let t = shown 1 v in
             record {
               text = t .text;
-              letters = t .shows .letters;
-              short = subst (λ (n : ℕ). length (t .text) ≤ n * n + n) p (t .shows .short);
+              letters = t .graphOfBuilt .letters;
+              short = subst (λ (n : ℕ). length (t .text) ≤ n * n + n) p (t .graphOfBuilt .short);
               first = t .first;
               second = t .second;
               third = t .third;
               written = t .written;
-              shows = t .shows;
-              two-readings = Demands.steady-text-has-two b (t .text) a (t .shows);
+              graphOfBuilt = t .graphOfBuilt;
+              two-readings = Demands.steady-text-has-two b (t .text) a (t .graphOfBuilt);
             };
-        runaway-shows = λ v.
+        runaway-graphOfBuilt = λ v.
             let t = shown 2 v in
             record {
               x = t .x;
               y = t .y;
               z = t .z;
-              letters = t .shows .letters;
-              some-x = t .shows .some-x;
-              short-x = subst (λ (n : ℕ). length (t .x) ≤ n) p (t .shows .short-x);
-              some-y = t .shows .some-y;
-              short-y = subst (λ (n : ℕ). length (t .y) ≤ n * n + n) p (t .shows .short-y);
-              short-z = subst (λ (n : ℕ). length (t .z) ≤ n) p (t .shows .short-z);
+              letters = t .graphOfBuilt .letters;
+              some-x = t .graphOfBuilt .some-x;
+              short-x = subst (λ (n : ℕ). length (t .x) ≤ n) p (t .graphOfBuilt .short-x);
+              some-y = t .graphOfBuilt .some-y;
+              short-y = subst (λ (n : ℕ). length (t .y) ≤ n * n + n) p (t .graphOfBuilt .short-y);
+              short-z = subst (λ (n : ℕ). length (t .z) ≤ n) p (t .graphOfBuilt .short-z);
               first = t .first;
               second = t .second;
               third = t .third;
               written = t .written;
-              shows = t .shows;
-              readings-double = Demands.runaway-texts-double b (t .x) (t .y) (t .z) a (t .shows);
+              graphOfBuilt = t .graphOfBuilt;
+              readings-double = Demands.runaway-texts-double b (t .x) (t .y) (t .z) a (t .graphOfBuilt);
             };
         verdict-low = omega (arith, said, Demands.verdict-is-low b a);
       }

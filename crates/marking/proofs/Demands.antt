@@ -1,5 +1,5 @@
 -- Demands 2 and 3 for every accepted pattern, and that vetting can show its texts. Each statement is one sentence of a demand; its
--- proof cites the crate that has it. In all of them b is a pattern's bytes, `patternFault b ≡ 0` says that the pattern is accepted,
+-- proof cites the crate that has it. In all of them b is a pattern's bytes, `patternRefusal b ≡ 0` says that the pattern is accepted,
 -- `patternGraph b` is its graph, and s is an answer: any list of letters, of any length. Assumes nothing.
 use mathlib.Core.Path.{_≡_}
 use mathlib.Core.Logic.{_↔_}
@@ -13,8 +13,8 @@ use Rattle.graph.specs.Readings.{isReading, readings, creditOf, mark}
 use Rattle.graph.proofs.Counting as Counting
 use Rattle.graph.proofs.Marks as Marks
 use Rattle.pattern.specs.Grammar.{patternPart}
-use Rattle.pattern.specs.Refusals.{patternFault}
-use Rattle.pattern.specs.Positions.{places, patternGraph}
+use Rattle.pattern.specs.Refusals.{patternRefusal}
+use Rattle.pattern.specs.Positions.{positions, patternGraph}
 use Rattle.pattern.specs.Texts.{Text}
 use Rattle.pattern.proofs.Texts as Texts
 use Rattle.pattern.proofs.Useful.{trim}
@@ -25,52 +25,52 @@ use Rattle.verdict.proofs.Bounds as Bounds
 -- ---- Demand 2
 
 -- "An answer has a reading exactly when it belongs to the pattern's texts as POSIX defines alternation, joining and repetition."
-pub texts-are-readings : (b s : List ℕ) → patternFault b ≡ 0 → Text (patternPart b) s ↔ ((r : List ℕ) × (isReading (patternGraph b) s r ≡ true))
+pub texts-are-readings : (b s : List ℕ) → patternRefusal b ≡ 0 → Text (patternPart b) s ↔ ((r : List ℕ) × (isReading (patternGraph b) s r ≡ true))
 texts-are-readings b s a = Texts.texts-read (patternPart b) s
 
 -- "The count is the true one": some list has all readings, each of them once, and is as long as the count says.
-pub count-is-true : (b s : List ℕ) → patternFault b ≡ 0
+pub count-is-true : (b s : List ℕ) → patternRefusal b ≡ 0
     → (rs : List (List ℕ)) × Apart rs × ((r : List ℕ) → In r rs ↔ (isReading (patternGraph b) s r ≡ true)) × (length rs ≡ readings (patternGraph b) s)
 count-is-true b s a = Counting.readings-listed (patternGraph b) s
 
 -- "The mark is the most credit one reading earns": where there is a reading, one earns it;
-pub mark-is-earned : (b s : List ℕ) → patternFault b ≡ 0 → 1 ≤ readings (patternGraph b) s
+pub mark-is-earned : (b s : List ℕ) → patternRefusal b ≡ 0 → 1 ≤ readings (patternGraph b) s
     → (r : List ℕ) × (isReading (patternGraph b) s r ≡ true) × (creditOf (patternGraph b) r ≡ mark (patternGraph b) s)
 mark-is-earned b s a = Marks.mark-earned (patternGraph b) s
 
 -- no reading earns more;
-pub mark-is-most : (b s r : List ℕ) → patternFault b ≡ 0 → isReading (patternGraph b) s r ≡ true → creditOf (patternGraph b) r ≤ mark (patternGraph b) s
+pub mark-is-most : (b s r : List ℕ) → patternRefusal b ≡ 0 → isReading (patternGraph b) s r ≡ true → creditOf (patternGraph b) r ≤ mark (patternGraph b) s
 mark-is-most b s r a = Marks.mark-most (patternGraph b) s r
 
 -- "0 if there is none."
-pub mark-is-none : (b s : List ℕ) → patternFault b ≡ 0 → readings (patternGraph b) s ≡ 0 → mark (patternGraph b) s ≡ 0
+pub mark-is-none : (b s : List ℕ) → patternRefusal b ≡ 0 → readings (patternGraph b) s ≡ 0 → mark (patternGraph b) s ≡ 0
 mark-is-none b s a = Marks.mark-none (patternGraph b) s
 
 -- ---- Demand 3: "Nobody who writes an answer can give it more readings than the verdict allows."
 
 -- Single, steady and runaway are 0, 1 and 2; there is no fourth.
-pub verdict-is-low : (b : List ℕ) → patternFault b ≡ 0 → verdict (patternGraph b) ≤ 2
+pub verdict-is-low : (b : List ℕ) → patternRefusal b ≡ 0 → verdict (patternGraph b) ≤ 2
 verdict-is-low b a = Bounds.verdict-low (patternGraph b)
 
 -- Single: no answer has two readings, and of no other pattern is that so.
-pub single-allows-one : (b : List ℕ) → patternFault b ≡ 0 → (verdict (patternGraph b) ≡ 0) ↔ ((s : List ℕ) → allLetters s ≡ true → readings (patternGraph b) s ≤ 1)
+pub single-allows-one : (b : List ℕ) → patternRefusal b ≡ 0 → (verdict (patternGraph b) ≡ 0) ↔ ((s : List ℕ) → allLetters s ≡ true → readings (patternGraph b) s ≤ 1)
 single-allows-one b a = Bounds.single (patternGraph b) (trim b a)
 
 -- Steady: an answer of m letters has at most (m + 2)^(2p). (So it is for single patterns too.)
-pub steady-allows : (b s : List ℕ) → patternFault b ≡ 0 → (verdict (patternGraph b) ≡ 2 → ⊥) → readings (patternGraph b) s ≤ (length s + 2) ^ (2 * places (patternPart b))
+pub steady-allows : (b s : List ℕ) → patternRefusal b ≡ 0 → (verdict (patternGraph b) ≡ 2 → ⊥) → readings (patternGraph b) s ≤ (length s + 2) ^ (2 * positions (patternPart b))
 steady-allows b s a v = Bounds.bounded (patternGraph b) (trim b a) v s
 
 -- Steady: some answer has two readings, and vetting can show one of at most p² + p letters.
-pub steady-can-show : (b : List ℕ) → patternFault b ≡ 0 → verdict (patternGraph b) ≡ 1 → (s : List ℕ) × ShowsSteady (patternGraph b) s
+pub steady-can-show : (b : List ℕ) → patternRefusal b ≡ 0 → verdict (patternGraph b) ≡ 1 → (s : List ℕ) × ShowsSteady (patternGraph b) s
 steady-can-show b a = Bounds.steady-can (patternGraph b) (trim b a)
 
-pub steady-text-has-two : (b s : List ℕ) → patternFault b ≡ 0 → ShowsSteady (patternGraph b) s → 2 ≤ readings (patternGraph b) s
+pub steady-text-has-two : (b s : List ℕ) → patternRefusal b ≡ 0 → ShowsSteady (patternGraph b) s → 2 ≤ readings (patternGraph b) s
 steady-text-has-two b s a = Bounds.steady-shown (patternGraph b) s
 
 -- Runaway: vetting can show texts x, y, z,
-pub runaway-can-show : (b : List ℕ) → patternFault b ≡ 0 → verdict (patternGraph b) ≡ 2 → (x : List ℕ) × (y : List ℕ) × (z : List ℕ) × ShowsRunaway (patternGraph b) x y z
+pub runaway-can-show : (b : List ℕ) → patternRefusal b ≡ 0 → verdict (patternGraph b) ≡ 2 → (x : List ℕ) × (y : List ℕ) × (z : List ℕ) × ShowsRunaway (patternGraph b) x y z
 runaway-can-show b a = Bounds.runaway-can (patternGraph b) (trim b a)
 
 -- and x yᵏ z has at least 2ᵏ readings for every k.
-pub runaway-texts-double : (b x y z : List ℕ) → patternFault b ≡ 0 → ShowsRunaway (patternGraph b) x y z → (k : ℕ) → 2 ^ k ≤ readings (patternGraph b) (x ++ (times k y ++ z))
+pub runaway-texts-double : (b x y z : List ℕ) → patternRefusal b ≡ 0 → ShowsRunaway (patternGraph b) x y z → (k : ℕ) → 2 ^ k ≤ readings (patternGraph b) (x ++ (times k y ++ z))
 runaway-texts-double b x y z a = Bounds.runaway-shown (patternGraph b) x y z

@@ -12,15 +12,15 @@ use Rattle.basics.proofs.Tests.{by-test, if-yes, if-no}
 use Rattle.letters.specs.Alphabet.{allLetters}
 use Rattle.graph.specs.Graph.{Graph, noGraph}
 use Rattle.graph.specs.Readings.{readings, mark}
-use Rattle.pattern.specs.Refusals.{patternFault, builtGraph}
+use Rattle.pattern.specs.Refusals.{patternRefusal, builtGraph}
 use Rattle.pattern.specs.Positions.{patternGraph}
 use Rattle.marks.specs.Rows.{Answered}
 use Rattle.marks.specs.declared.Marked.{Marked}
-use Rattle.marking.specs.Marking.{markFault, countShown, MarkSays, countAfter}
+use Rattle.marking.specs.Marking.{markRefusal, countShown, MarkSays, countAfter}
 
 -- an accepted pattern is built into its graph
-pub built-graph : (s : List ℕ) → patternFault s ≡ 0 → builtGraph s ≡ patternGraph s
-built-graph s e = if-yes (patternGraph s) noGraph (eqb (patternFault s) 0) (eq-eqb (patternFault s) 0 e)
+pub built-graph : (s : List ℕ) → patternRefusal s ≡ 0 → builtGraph s ≡ patternGraph s
+built-graph s e = if-yes (patternGraph s) noGraph (eqb (patternRefusal s) 0) (eq-eqb (patternRefusal s) 0 e)
 
 module _ (s a : List ℕ) where
   -- ---- which refusal
@@ -28,56 +28,56 @@ module _ (s a : List ℕ) where
   abbrev of-answer : ℕ
   of-answer = if ltb 4096 (length a) then 9 else if not (allLetters a) then 10 else 0
 
-  pub by-pattern : (patternFault s ≡ 0 → ⊥) → markFault s a ≡ patternFault s
-  by-pattern d = if-yes (patternFault s) of-answer (not (eqb (patternFault s) 0)) (ap not (ne-eqb (patternFault s) 0 d))
+  pub by-pattern : (patternRefusal s ≡ 0 → ⊥) → markRefusal s a ≡ patternRefusal s
+  by-pattern d = if-yes (patternRefusal s) of-answer (not (eqb (patternRefusal s) 0)) (ap not (ne-eqb (patternRefusal s) 0 d))
 
-  by-answer : patternFault s ≡ 0 → markFault s a ≡ of-answer
-  by-answer e = if-no (patternFault s) of-answer (not (eqb (patternFault s) 0)) (ap not (eq-eqb (patternFault s) 0 e))
+  by-answer : patternRefusal s ≡ 0 → markRefusal s a ≡ of-answer
+  by-answer e = if-no (patternRefusal s) of-answer (not (eqb (patternRefusal s) 0)) (ap not (eq-eqb (patternRefusal s) 0 e))
 
-  pub too-long : patternFault s ≡ 0 → 4096 < length a → markFault s a ≡ 9
+  pub too-long : patternRefusal s ≡ 0 → 4096 < length a → markRefusal s a ≡ 9
   too-long e l = by-answer e ∙ if-yes 9 (if not (allLetters a) then 10 else 0) (ltb 4096 (length a)) (lt-ltb 4096 (length a) l)
 
-  by-letters : patternFault s ≡ 0 → length a ≤ 4096 → markFault s a ≡ (if not (allLetters a) then 10 else 0)
+  by-letters : patternRefusal s ≡ 0 → length a ≤ 4096 → markRefusal s a ≡ (if not (allLetters a) then 10 else 0)
   by-letters e l = by-answer e ∙ if-no 9 (if not (allLetters a) then 10 else 0) (ltb 4096 (length a)) (le-ltb 4096 (length a) l)
 
-  pub no-text : patternFault s ≡ 0 → length a ≤ 4096 → allLetters a ≡ false → markFault s a ≡ 10
+  pub no-text : patternRefusal s ≡ 0 → length a ≤ 4096 → allLetters a ≡ false → markRefusal s a ≡ 10
   no-text e l n = by-letters e l ∙ if-yes {A = ℕ} 10 0 (not (allLetters a)) (ap not n)
 
-  pub accepted : patternFault s ≡ 0 → length a ≤ 4096 → allLetters a ≡ true → markFault s a ≡ 0
+  pub accepted : patternRefusal s ≡ 0 → length a ≤ 4096 → allLetters a ≡ true → markRefusal s a ≡ 0
   accepted e l y = by-letters e l ∙ if-no {A = ℕ} 10 0 (not (allLetters a)) (ap not y)
 
   -- where no refusal applies, none of the pattern's does
-  pub pattern-accepted : markFault s a ≡ 0 → patternFault s ≡ 0
-  pattern-accepted f = by-test (eqb (patternFault s) 0) (eqb-true (patternFault s) 0) (λ n. sym (if-yes (patternFault s) of-answer (not (eqb (patternFault s) 0)) (ap not n)) ∙ f)
+  pub pattern-accepted : markRefusal s a ≡ 0 → patternRefusal s ≡ 0
+  pattern-accepted f = by-test (eqb (patternRefusal s) 0) (eqb-true (patternRefusal s) 0) (λ n. sym (if-yes (patternRefusal s) of-answer (not (eqb (patternRefusal s) 0)) (ap not n)) ∙ f)
 
   -- ---- what is promised
 
-  pub says-refusal : (k : ℕ) (r : Marked) → (k ≡ 0 → ⊥) → markFault s a ≡ k → (r .refusal ≡ k) × (r .count ≡ 0) × (r .mark ≡ 0) → MarkSays s a r
+  pub says-refusal : (k : ℕ) (r : Marked) → (k ≡ 0 → ⊥) → markRefusal s a ≡ k → (r .refusal ≡ k) × (r .count ≡ 0) × (r .mark ≡ 0) → MarkSays s a r
   says-refusal k r d f h =
-      let n : eqb (markFault s a) 0 ≡ false = ne-eqb (markFault s a) 0 (λ e. d (sym f ∙ e)) in
+      let n : eqb (markRefusal s a) 0 ≡ false = ne-eqb (markRefusal s a) 0 (λ e. d (sym f ∙ e)) in
       record {
         refusal = h .0 ∙ sym f;
-        count = h .1 ∙ sym (if-no (min (readings (patternGraph s) a) (2 ^ 63)) 0 (eqb (markFault s a) 0) n);
-        mark = h .2 ∙ sym (if-no (mark (patternGraph s) a) 0 (eqb (markFault s a) 0) n);
+        count = h .1 ∙ sym (if-no (min (readings (patternGraph s) a) (2 ^ 63)) 0 (eqb (markRefusal s a) 0) n);
+        mark = h .2 ∙ sym (if-no (mark (patternGraph s) a) 0 (eqb (markRefusal s a) 0) n);
       }
 
-  pub says-mark : (g : Graph) (r : Marked) → g ≡ builtGraph s → patternFault s ≡ 0 → markFault s a ≡ 0 → (r .refusal ≡ 0) × Answered g a (r .count) (r .mark) → MarkSays s a r
+  pub says-mark : (g : Graph) (r : Marked) → g ≡ builtGraph s → patternRefusal s ≡ 0 → markRefusal s a ≡ 0 → (r .refusal ≡ 0) × Answered g a (r .count) (r .mark) → MarkSays s a r
   says-mark g r e p f h =
       let w = subst (λ (x : Graph). Answered x a (r .count) (r .mark)) (e ∙ built-graph s p) (h .1) in
-      let y : eqb (markFault s a) 0 ≡ true = eq-eqb (markFault s a) 0 f in
+      let y : eqb (markRefusal s a) 0 ≡ true = eq-eqb (markRefusal s a) 0 f in
       record {
         refusal = h .0 ∙ sym f;
-        count = w .counts ∙ sym (if-yes (min (readings (patternGraph s) a) (2 ^ 63)) 0 (eqb (markFault s a) 0) y);
-        mark = w .marks ∙ sym (if-yes (mark (patternGraph s) a) 0 (eqb (markFault s a) 0) y);
+        count = w .counts ∙ sym (if-yes (min (readings (patternGraph s) a) (2 ^ 63)) 0 (eqb (markRefusal s a) 0) y);
+        mark = w .marks ∙ sym (if-yes (mark (patternGraph s) a) 0 (eqb (markRefusal s a) 0) y);
       }
 
   -- ---- the number that C is lent
 
-  pub count-kept : (old : ℕ) → (markFault s a ≡ 0 → ⊥) → countAfter s a old ≡ old
-  count-kept old d = if-no (countShown s a) old (eqb (markFault s a) 0) (ne-eqb (markFault s a) 0 d)
+  pub count-kept : (old : ℕ) → (markRefusal s a ≡ 0 → ⊥) → countAfter s a old ≡ old
+  count-kept old d = if-no (countShown s a) old (eqb (markRefusal s a) 0) (ne-eqb (markRefusal s a) 0 d)
 
   count-stored : (r : Marked) (old : ℕ) → MarkSays s a r → r .refusal ≡ 0 → r .count ≡ countAfter s a old
-  count-stored r old h z = h .count ∙ sym (if-yes (countShown s a) old (eqb (markFault s a) 0) (eq-eqb (markFault s a) 0 (sym (h .refusal) ∙ z)))
+  count-stored r old h z = h .count ∙ sym (if-yes (countShown s a) old (eqb (markRefusal s a) 0) (eq-eqb (markRefusal s a) 0 (sym (h .refusal) ∙ z)))
 
   pub count-after : (r : Marked) (old new : ℕ) → MarkSays s a r → ((r .refusal ≡ 0) × (new ≡ r .count)) ⊎ ((r .refusal ≡ 0 → ⊥) × (new ≡ old)) → new ≡ countAfter s a old
   count-after r old new h (inl w) = w .1 ∙ count-stored r old h (w .0)

@@ -12,37 +12,37 @@ use Rattle.basics.proofs.Tests.{by-test, if-yes, if-no, if-either}
 use Rattle.letters.specs.Alphabet.{allLetters}
 use Rattle.graph.specs.Graph.{Graph}
 use Rattle.pattern.specs.Grammar.{isPattern, patternPart}
-use Rattle.pattern.specs.Refusals.{anyReversed, anyEmpty, patternFault}
-use Rattle.pattern.specs.Positions.{atoms, places, patternGraph}
-use Rattle.pattern.proofs.Accepted.{fault-none}
+use Rattle.pattern.specs.Refusals.{anyReversed, anyEmpty, patternRefusal}
+use Rattle.pattern.specs.Positions.{atoms, positions, patternGraph}
+use Rattle.pattern.proofs.Accepted.{refusal-none}
 use Rattle.verdict.specs.Answers.{ShowsBy}
 use Rattle.verdict.proofs.Bounds.{verdict-low}
 use Rattle.marks.specs.declared.Marked.{Marked}
 use Rattle.walk.specs.declared.Vetted.{Vetted}
 use Rattle.marking.specs.Packing.{field, vetPacked, vetUnpacked, markPacked, markUnpacked}
-use Rattle.marking.specs.Marking.{markFault, countShown, MarkSays, countAfter, MarkForC}
-use Rattle.marking.specs.Vetting.{vetFault, VetBy, VetSays, VetForC}
+use Rattle.marking.specs.Marking.{markRefusal, countShown, MarkSays, countAfter, MarkForC}
+use Rattle.marking.specs.Vetting.{vetRefusal, VetBy, VetSays, VetForC}
 use Rattle.marking.proofs.Vetting.{accepts}
 
 -- ---- refusals
 
-pattern-low : (s : List ℕ) → patternFault s ≤ 8
+pattern-low : (s : List ℕ) → patternRefusal s ≤ 8
 pattern-low s =
     if-either (λ (k : ℕ). k ≤ 8) 3 _ (ltb 512 (length s)) (λ e. omega arith) (λ e.
     if-either (λ (k : ℕ). k ≤ 8) 4 _ (not (allLetters s)) (λ e. omega arith) (λ e.
     if-either (λ (k : ℕ). k ≤ 8) 5 _ (not (isPattern s)) (λ e. omega arith) (λ e.
     if-either (λ (k : ℕ). k ≤ 8) 6 _ (anyReversed (atoms (patternPart s))) (λ e. omega arith) (λ e.
     if-either (λ (k : ℕ). k ≤ 8) 7 _ (anyEmpty (atoms (patternPart s))) (λ e. omega arith) (λ e.
-    if-either (λ (k : ℕ). k ≤ 8) 8 0 (ltb 60 (places (patternPart s))) (λ e. omega arith) (λ e. omega arith))))))
+    if-either (λ (k : ℕ). k ≤ 8) 8 0 (ltb 60 (positions (patternPart s))) (λ e. omega arith) (λ e. omega arith))))))
 
-vet-low : (s : List ℕ) (m n : ℕ) → vetFault s m n ≤ 8
+vet-low : (s : List ℕ) (m n : ℕ) → vetRefusal s m n ≤ 8
 vet-low s m n =
-    if-either (λ (k : ℕ). k ≤ 8) 1 (if ltb n 8192 then 2 else patternFault s) (ltb m 4096) (λ e. omega arith)
-    (λ e. if-either (λ (k : ℕ). k ≤ 8) 2 (patternFault s) (ltb n 8192) (λ e. omega arith) (λ e. pattern-low s))
+    if-either (λ (k : ℕ). k ≤ 8) 1 (if ltb n 8192 then 2 else patternRefusal s) (ltb m 4096) (λ e. omega arith)
+    (λ e. if-either (λ (k : ℕ). k ≤ 8) 2 (patternRefusal s) (ltb n 8192) (λ e. omega arith) (λ e. pattern-low s))
 
-mark-low : (s a : List ℕ) → markFault s a ≤ 10
+mark-low : (s a : List ℕ) → markRefusal s a ≤ 10
 mark-low s a =
-    if-either (λ (k : ℕ). k ≤ 10) (patternFault s) _ (not (eqb (patternFault s) 0)) (λ e. omega (arith, pattern-low s)) (λ e.
+    if-either (λ (k : ℕ). k ≤ 10) (patternRefusal s) _ (not (eqb (patternRefusal s) 0)) (λ e. omega (arith, pattern-low s)) (λ e.
     if-either (λ (k : ℕ). k ≤ 10) 9 _ (ltb 4096 (length a)) (λ e. omega arith) (λ e.
     if-either (λ (k : ℕ). k ≤ 10) 10 0 (not (allLetters a)) (λ e. omega arith) (λ e. omega arith)))
 
@@ -51,7 +51,7 @@ mark-low s a =
 pub record Fits (r : Vetted) : Type 0 where
   pub refusal : r .refusal < 2 ^ 8
   pub verdict : r .verdict < 2 ^ 8
-  pub places : r .places < 2 ^ 8
+  pub positions : r .positions < 2 ^ 8
   pub first : r .first < 2 ^ 12
   pub second : r .second < 2 ^ 12
   pub third : r .third < 2 ^ 12
@@ -60,56 +60,56 @@ pub record Fits (r : Vetted) : Type 0 where
 square : (p : ℕ) → p ≤ 60 → p * p + p ≤ 3660
 square p l = omega (arith, mul-le-mul l l)
 
-lengths-low : (v : ℕ) (g : Graph) (e e′ : List ℕ) (l m n : ℕ) → g .places ≤ 60 → ShowsBy v g e e′ l m n → (l < 2 ^ 12) × (m < 2 ^ 12) × (n < 2 ^ 12)
+lengths-low : (v : ℕ) (g : Graph) (e e′ : List ℕ) (l m n : ℕ) → g .positions ≤ 60 → ShowsBy v g e e′ l m n → (l < 2 ^ 12) × (m < 2 ^ 12) × (n < 2 ^ 12)
 lengths-low zero g e e′ l m n few h = let a = h .first in let b = h .second in let c = h .third in omega arith
 lengths-low (suc zero) g e e′ l m n few h =
-    let q = square (g .places) few in
+    let q = square (g .positions) few in
     let a = h .first in
     let b = h .second in
     let c = h .third in
-    let t = h .shows .short in
+    let t = h .graphOfBuilt .short in
     omega arith
 lengths-low (suc (suc v)) g e e′ l m n few h =
-    let q = square (g .places) few in
+    let q = square (g .positions) few in
     let a = h .first in
     let b = h .second in
     let c = h .third in
-    let x = h .shows .short-x in
-    let y = h .shows .short-y in
-    let z = h .shows .short-z in
+    let x = h .graphOfBuilt .short-x in
+    let y = h .graphOfBuilt .short-y in
+    let z = h .graphOfBuilt .short-z in
     omega arith
 
-fits-by : (k : ℕ) (s e e′ w w′ : List ℕ) (r : Vetted) → k ≤ 8 → (k ≡ 0 → patternFault s ≡ 0) → VetBy k s e e′ w w′ r → Fits r
+fits-by : (k : ℕ) (s e e′ w w′ : List ℕ) (r : Vetted) → k ≤ 8 → (k ≡ 0 → patternRefusal s ≡ 0) → VetBy k s e e′ w w′ r → Fits r
 fits-by zero s e e′ w w′ r low a h =
     let j = h .judged in
-    let few = fault-none s (a refl) .few in
-    let l = lengths-low (r .verdict) (patternGraph s) e e′ (r .first) (r .second) (r .third) few (j .vets .shows) in
+    let few = refusal-none s (a refl) .few in
+    let l = lengths-low (r .verdict) (patternGraph s) e e′ (r .first) (r .second) (r .third) few (j .vets .graphOfBuilt) in
     record {
       refusal = omega (arith, j .refusal);
       verdict = omega (arith, j .vets .verdict-is, verdict-low (patternGraph s));
-      places = omega (arith, j .places, few);
+      positions = omega (arith, j .positions, few);
       first = l .0;
       second = l .1;
       third = l .2;
     }
 fits-by (suc k) s e e′ w w′ r low a h =
-    subst Fits (sym (h .result)) (record { refusal = omega arith; verdict = omega arith; places = omega arith; first = omega arith; second = omega arith; third = omega arith })
+    subst Fits (sym (h .result)) (record { refusal = omega arith; verdict = omega arith; positions = omega arith; first = omega arith; second = omega arith; third = omega arith })
 
 pub fits : (s e e′ w w′ : List ℕ) (r : Vetted) → VetSays s e e′ w w′ r → Fits r
-fits s e e′ w w′ r h = fits-by (vetFault s (length e) (length w)) s e e′ w w′ r (vet-low s (length e) (length w)) (accepts s (length e) (length w)) h
+fits s e e′ w w′ r h = fits-by (vetRefusal s (length e) (length w)) s e e′ w w′ r (vet-low s (length e) (length w)) (accepts s (length e) (length w)) h
 
 -- packed and unpacked again
 same-fields : (r : Vetted) → Fits r
     → (field (vetPacked r) 0 8 ≡ r .refusal)
     × (field (vetPacked r) 8 8 ≡ r .verdict)
-    × (field (vetPacked r) 16 8 ≡ r .places)
+    × (field (vetPacked r) 16 8 ≡ r .positions)
     × (field (vetPacked r) 24 12 ≡ r .first)
     × (field (vetPacked r) 36 12 ≡ r .second)
     × (field (vetPacked r) 48 12 ≡ r .third)
 same-fields r f =
     let a = f .refusal in
     let b = f .verdict in
-    let c = f .places in
+    let c = f .positions in
     let d = f .first in
     let e = f .second in
     let g = f .third in
@@ -118,7 +118,7 @@ same-fields r f =
 vet-again : (r : Vetted) → Fits r → vetUnpacked (vetPacked r) ≡ r
 vet-again r f =
     let s = same-fields r f in
-    λ i. record { refusal = s .0 i; verdict = s .1 i; places = s .2 i; first = s .3 i; second = s .4 i; third = s .5 i }
+    λ i. record { refusal = s .0 i; verdict = s .1 i; positions = s .2 i; first = s .3 i; second = s .4 i; third = s .5 i }
 
 pub vet-fields : (s e e′ w w′ : List ℕ) (n : ℕ) (h : VetForC s e e′ w w′ n) → vetUnpacked n ≡ h .vetted
 vet-fields s e e′ w w′ n h = ap vetUnpacked (h .packing) ∙ vet-again (h .vetted) (fits s e e′ w w′ (h .vetted) (h .says))
@@ -129,11 +129,11 @@ vet-unpacks s e e′ w w′ n h = subst (VetSays s e e′ w w′) (sym (vet-fiel
 -- ---- marking
 
 -- the count of a refusal is 0, and otherwise what is stored is the count
-count-read : (s a : List ℕ) (old : ℕ) → countShown s a ≡ (if eqb (markFault s a) 0 then countAfter s a old else 0)
+count-read : (s a : List ℕ) (old : ℕ) → countShown s a ≡ (if eqb (markRefusal s a) 0 then countAfter s a old else 0)
 count-read s a old =
-    by-test (eqb (markFault s a) 0)
-    (λ y. sym (if-yes (countAfter s a old) 0 (eqb (markFault s a) 0) y ∙ if-yes (countShown s a) old (eqb (markFault s a) 0) y))
-    (λ n. if-no _ 0 (eqb (markFault s a) 0) n ∙ sym (if-no (countAfter s a old) 0 (eqb (markFault s a) 0) n))
+    by-test (eqb (markRefusal s a) 0)
+    (λ y. sym (if-yes (countAfter s a old) 0 (eqb (markRefusal s a) 0) y ∙ if-yes (countShown s a) old (eqb (markRefusal s a) 0) y))
+    (λ n. if-no _ 0 (eqb (markRefusal s a) 0) n ∙ sym (if-no (countAfter s a old) 0 (eqb (markRefusal s a) 0) n))
 
 -- packed and unpacked again
 mark-again : (r : Marked) → r .refusal ≤ 10 → r .mark < 2 ^ 32 → (field (markPacked r) 32 8 ≡ r .refusal) × (field (markPacked r) 0 32 ≡ r .mark)

@@ -10,54 +10,54 @@ use Rattle.basics.specs.Choice.{if_then_else_}
 use Rattle.basics.proofs.Tests.{by-test, if-yes, if-no}
 use Rattle.graph.specs.Graph.{Graph}
 use Rattle.graph.specs.Trim.{Trim}
-use Rattle.pattern.specs.Refusals.{patternFault, builtGraph}
+use Rattle.pattern.specs.Refusals.{patternRefusal, builtGraph}
 use Rattle.pattern.proofs.Useful.{trim}
 use Rattle.walk.specs.Answers.{Judged}
 use Rattle.walk.specs.declared.Vetted.{Vetted}
-use Rattle.marking.specs.Vetting.{vetFault, refused, Answers, Declined, VetBy, VetSays}
+use Rattle.marking.specs.Vetting.{vetRefusal, refused, Answers, Declined, VetBy, VetSays}
 use Rattle.marking.proofs.Marking.{built-graph}
 
 -- ---- which refusal
 
 module _ (s : List ℕ) (e w : ℕ) where
   abbrev of-scratch : ℕ
-  of-scratch = if ltb w 8192 then 2 else patternFault s
+  of-scratch = if ltb w 8192 then 2 else patternRefusal s
 
-  pub little-evidence : e < 4096 → vetFault s e w ≡ 1
+  pub little-evidence : e < 4096 → vetRefusal s e w ≡ 1
   little-evidence l = if-yes 1 of-scratch (ltb e 4096) (lt-ltb e 4096 l)
 
-  by-scratch : 4096 ≤ e → vetFault s e w ≡ of-scratch
+  by-scratch : 4096 ≤ e → vetRefusal s e w ≡ of-scratch
   by-scratch l = if-no 1 of-scratch (ltb e 4096) (le-ltb e 4096 l)
 
-  pub little-scratch : 4096 ≤ e → w < 8192 → vetFault s e w ≡ 2
-  little-scratch l k = by-scratch l ∙ if-yes 2 (patternFault s) (ltb w 8192) (lt-ltb w 8192 k)
+  pub little-scratch : 4096 ≤ e → w < 8192 → vetRefusal s e w ≡ 2
+  little-scratch l k = by-scratch l ∙ if-yes 2 (patternRefusal s) (ltb w 8192) (lt-ltb w 8192 k)
 
-  pub by-pattern : 4096 ≤ e → 8192 ≤ w → vetFault s e w ≡ patternFault s
-  by-pattern l k = by-scratch l ∙ if-no 2 (patternFault s) (ltb w 8192) (le-ltb w 8192 k)
+  pub by-pattern : 4096 ≤ e → 8192 ≤ w → vetRefusal s e w ≡ patternRefusal s
+  by-pattern l k = by-scratch l ∙ if-no 2 (patternRefusal s) (ltb w 8192) (le-ltb w 8192 k)
 
   -- where none of them applies, none of the pattern's does
-  pub accepts : vetFault s e w ≡ 0 → patternFault s ≡ 0
+  pub accepts : vetRefusal s e w ≡ 0 → patternRefusal s ≡ 0
   accepts f =
       by-test (ltb e 4096)
       (λ y. let z = sym (if-yes 1 of-scratch (ltb e 4096) y) ∙ f in absurd (omega arith))
       (λ n.
       let g : of-scratch ≡ 0 = sym (if-no 1 of-scratch (ltb e 4096) n) ∙ f in
-      by-test (ltb w 8192) (λ y. let z = sym (if-yes 2 (patternFault s) (ltb w 8192) y) ∙ g in absurd (omega arith)) (λ m. sym (if-no 2 (patternFault s) (ltb w 8192) m) ∙ g))
+      by-test (ltb w 8192) (λ y. let z = sym (if-yes 2 (patternRefusal s) (ltb w 8192) y) ∙ g in absurd (omega arith)) (λ m. sym (if-no 2 (patternRefusal s) (ltb w 8192) m) ∙ g))
 
 -- ---- what is promised
 
-pub says-refusal : (k : ℕ) (s e w : List ℕ) (r : Vetted) → (k ≡ 0 → ⊥) → vetFault s (length e) (length w) ≡ k → r ≡ refused k → VetSays s e e w w r
+pub says-refusal : (k : ℕ) (s e w : List ℕ) (r : Vetted) → (k ≡ 0 → ⊥) → vetRefusal s (length e) (length w) ≡ k → r ≡ refused k → VetSays s e e w w r
 says-refusal zero s e w r d f h = absurd (d refl)
 says-refusal (suc k) s e w r d f h = subst (λ (n : ℕ). VetBy n s e e w w r) (sym f) (record { result = h; evidence = refl; scratch = refl })
 
-pub says-verdict : (s e e′ w w′ : List ℕ) (r : Vetted) → vetFault s (length e) (length w) ≡ 0 → Answers s e e′ w w′ r → VetSays s e e′ w w′ r
+pub says-verdict : (s e e′ w w′ : List ℕ) (r : Vetted) → vetRefusal s (length e) (length w) ≡ 0 → Answers s e e′ w w′ r → VetSays s e e′ w w′ r
 says-verdict s e e′ w w′ r f h = subst (λ (n : ℕ). VetBy n s e e′ w w′ r) (sym f) h
 
 -- the graph that was built is the pattern's
-pub trim-built : (s : List ℕ) (g : Graph) → g ≡ builtGraph s → patternFault s ≡ 0 → Trim g
+pub trim-built : (s : List ℕ) (g : Graph) → g ≡ builtGraph s → patternRefusal s ≡ 0 → Trim g
 trim-built s g e f = subst Trim (sym (e ∙ built-graph s f)) (trim s f)
 
-pub answers : (s e e′ w w′ : List ℕ) (g : Graph) (r : Vetted) → g ≡ builtGraph s → patternFault s ≡ 0 → Judged g e e′ r → length w′ ≡ length w → Answers s e e′ w w′ r
+pub answers : (s e e′ w w′ : List ℕ) (g : Graph) (r : Vetted) → g ≡ builtGraph s → patternRefusal s ≡ 0 → Judged g e e′ r → length w′ ≡ length w → Answers s e e′ w w′ r
 answers s e e′ w w′ g r p f h l = record { judged = subst (λ (x : Graph). Judged x e e′ r) (p ∙ built-graph s f) h; scratch = l }
 
 -- ---- what a result says, by the refusal
@@ -73,12 +73,12 @@ declined-by (suc k) s e e′ w w′ r d h = h
 
 module _ (s e e′ w w′ : List ℕ) (r : Vetted) (says : VetSays s e e′ w w′ r) where
   abbrev fault : ℕ
-  fault = vetFault s (length e) (length w)
+  fault = vetRefusal s (length e) (length w)
 
   pub refusal-is : r .refusal ≡ fault
   refusal-is = refusal-by fault s e e′ w w′ r says
 
-  pub accepted : r .refusal ≡ 0 → patternFault s ≡ 0
+  pub accepted : r .refusal ≡ 0 → patternRefusal s ≡ 0
   accepted z = accepts s (length e) (length w) (sym refusal-is ∙ z)
 
   pub answered : r .refusal ≡ 0 → Answers s e e′ w w′ r

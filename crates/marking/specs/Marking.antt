@@ -8,35 +8,35 @@ use lib.ListN.{length}
 use Rattle.basics.specs.Choice.{if_then_else_}
 use Rattle.letters.specs.Alphabet.{allLetters}
 use Rattle.graph.specs.Readings.{readings, mark}
-use Rattle.pattern.specs.Refusals.{patternFault}
+use Rattle.pattern.specs.Refusals.{patternRefusal}
 use Rattle.pattern.specs.Positions.{patternGraph}
 use Rattle.marks.specs.declared.Marked.{Marked}
 use Rattle.marking.specs.Packing.{markPacked}
 
 -- [Refusals] those of the pattern, then 9, more than 4,096 bytes of answer, then 10, a byte of the answer that is no letter; 0 where
 -- none applies
-abbrev pub markFault : List ℕ → List ℕ → ℕ
-markFault s a =
-    if not (eqb (patternFault s) 0) then patternFault s
+abbrev pub markRefusal : List ℕ → List ℕ → ℕ
+markRefusal s a =
+    if not (eqb (patternRefusal s) 0) then patternRefusal s
     else if ltb 4096 (length a) then 9
     else if not (allLetters a) then 10
     else 0
 
 -- [Marking] the smaller of the number of readings and 2^63, and the mark; both 0 at a refusal
 abbrev pub countShown : List ℕ → List ℕ → ℕ
-countShown s a = if eqb (markFault s a) 0 then min (readings (patternGraph s) a) (2 ^ 63) else 0
+countShown s a = if eqb (markRefusal s a) 0 then min (readings (patternGraph s) a) (2 ^ 63) else 0
 
 abbrev pub markShown : List ℕ → List ℕ → ℕ
-markShown s a = if eqb (markFault s a) 0 then mark (patternGraph s) a else 0
+markShown s a = if eqb (markRefusal s a) 0 then mark (patternGraph s) a else 0
 
 pub record MarkSays (s a : List ℕ) (r : Marked) : Type 0 where
-  pub refusal : r .refusal ≡ markFault s a
+  pub refusal : r .refusal ≡ markRefusal s a
   pub count : r .count ≡ countShown s a
   pub mark : r .mark ≡ markShown s a
 
 -- [Memory] the number that C is lent: the count where there is no refusal, else what was there
 abbrev pub countAfter : List ℕ → List ℕ → ℕ → ℕ
-countAfter s a old = if eqb (markFault s a) 0 then countShown s a else old
+countAfter s a old = if eqb (markRefusal s a) 0 then countShown s a else old
 
 -- for C: the packed result, whose mark fits its field, and what stands behind the pointer before and after
 pub record MarkForC (s a : List ℕ) (old new packed : ℕ) : Type 0 where

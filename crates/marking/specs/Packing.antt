@@ -11,11 +11,11 @@ field n from width = n / 2 ^ from % 2 ^ width
 
 -- vetting: the refusal in bits 0 to 7, the verdict in 8 to 15, p in 16 to 23, the lengths in 24 to 35, 36 to 47 and 48 to 59
 abbrev pub vetPacked : Vetted → ℕ
-vetPacked r = r .refusal + r .verdict * 2 ^ 8 + r .places * 2 ^ 16 + r .first * 2 ^ 24 + r .second * 2 ^ 36 + r .third * 2 ^ 48
+vetPacked r = r .refusal + r .verdict * 2 ^ 8 + r .positions * 2 ^ 16 + r .first * 2 ^ 24 + r .second * 2 ^ 36 + r .third * 2 ^ 48
 
 abbrev pub vetUnpacked : ℕ → Vetted
 vetUnpacked n =
-    record { refusal = field n 0 8; verdict = field n 8 8; places = field n 16 8; first = field n 24 12; second = field n 36 12; third = field n 48 12 }
+    record { refusal = field n 0 8; verdict = field n 8 8; positions = field n 16 8; first = field n 24 12; second = field n 36 12; third = field n 48 12 }
 
 -- marking: the mark in bits 0 to 31, the refusal in 32 to 39; the count is not in the number, but stands behind a pointer where
 -- there is no refusal

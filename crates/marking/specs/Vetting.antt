@@ -6,22 +6,22 @@ use Prim.Native.Nat.{ℕ, zero, suc}
 use lib.Dec.{ltb}
 use lib.ListN.{length}
 use Rattle.basics.specs.Choice.{if_then_else_}
-use Rattle.pattern.specs.Refusals.{patternFault}
+use Rattle.pattern.specs.Refusals.{patternRefusal}
 use Rattle.pattern.specs.Positions.{patternGraph}
 use Rattle.walk.specs.Answers.{Judged}
 use Rattle.walk.specs.declared.Vetted.{Vetted}
 use Rattle.marking.specs.Packing.{vetPacked}
 
 -- [Refusals] 1, fewer than 4,096 bytes of evidence, then 2, fewer than 8,192 numbers of scratch, then those of the pattern
-abbrev pub vetFault : List ℕ → ℕ → ℕ → ℕ
-vetFault s evidence scratch =
+abbrev pub vetRefusal : List ℕ → ℕ → ℕ → ℕ
+vetRefusal s evidence scratch =
     if ltb evidence 4096 then 1
     else if ltb scratch 8192 then 2
-    else patternFault s
+    else patternRefusal s
 
 -- a refusal and nothing else
 abbrev pub refused : ℕ → Vetted
-refused k = record { refusal = k; verdict = 0; places = 0; first = 0; second = 0; third = 0 }
+refused k = record { refusal = k; verdict = 0; positions = 0; first = 0; second = 0; third = 0 }
 
 -- what is answered: e and e′ are the evidence before and after, w and w′ the scratch
 pub record Answers (s e e′ w w′ : List ℕ) (r : Vetted) : Type 0 where
@@ -39,7 +39,7 @@ VetBy zero s e e′ w w′ r = Answers s e e′ w w′ r
 VetBy (suc k) s e e′ w w′ r = Declined (suc k) e e′ w w′ r
 
 abbrev pub VetSays : List ℕ → List ℕ → List ℕ → List ℕ → List ℕ → Vetted → Type 0
-VetSays s e e′ w w′ r = VetBy (vetFault s (length e) (length w)) s e e′ w w′ r
+VetSays s e e′ w w′ r = VetBy (vetRefusal s (length e) (length w)) s e e′ w w′ r
 
 -- for C: the packed result
 pub record VetForC (s e e′ w w′ : List ℕ) (packed : ℕ) : Type 0 where

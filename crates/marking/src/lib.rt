@@ -34,7 +34,7 @@ fn no_verdict(refusal: u8) -> Vetted
     Vetted {
         refusal: refusal,
         verdict: 0,
-        places: 0,
+        positions: 0,
         first: 0,
         second: 0,
         third: 0,
@@ -67,7 +67,7 @@ fn packed(v: Vetted) -> u64
 {
     v.refusal as u64
         + v.verdict as u64 * 0x100
-        + v.places as u64 * 0x1_0000
+        + v.positions as u64 * 0x1_0000
         + v.first as u64 * 0x100_0000
         + v.second as u64 * 0x10_0000_0000
         + v.third as u64 * 0x1_0000_0000_0000

@@ -16,7 +16,7 @@ use Rattle.bits.specs.Bits.{hasBit}
 use Rattle.bits.proofs.Laws.{has-none, lt-of-high}
 use Rattle.letters.specs.LetterSet.{hasLetter}
 use Rattle.graph.specs.Graph.{Bounded}
-use Rattle.graph.specs.Built.{setAt, shows}
+use Rattle.graph.specs.Built.{setAt, graphOfBuilt}
 use Rattle.graph.specs.declared.Built.{Built}
 use Rattle.graph.proofs.Walks.{position-of}
 use Rattle.marks.specs.Tables.{Columns, Entered, tables}
@@ -75,27 +75,27 @@ columns-on row u table table′ h e x j =
 
 -- ---- the tables of a built pattern show its graph
 
-module _ (b : Built) (bounded : Bounded (shows b)) where
+module _ (b : Built) (bounded : Bounded (graphOfBuilt b)) where
   pub follow-low : (u : ℕ) → getD (b .follow) u 0 < 2 ^ 64 → getD (b .follow) u 0 < 2 ^ 61
   follow-low u fits =
       let few = bounded .few in
       lt-of-high 61 (getD (b .follow) u 0) fits
-      (λ i l. by-test (hasBit (getD (b .follow) u 0) i) (λ e. let p = position-of (shows b) i (bounded .next-to u i e) in absurd (omega arith)) (λ e. e))
+      (λ i l. by-test (hasBit (getD (b .follow) u 0) i) (λ e. let p = position-of (graphOfBuilt b) i (bounded .next-to u i e) in absurd (omega arith)) (λ e. e))
 
   module _ (holders : List ℕ) (held : Columns (λ i c. hasLetter (setAt (b .letters) i) c) 61 holders) where
     pub holders-low : (c : ℕ) → getD holders c 0 < 2 ^ 64 → getD holders c 0 < 2 ^ 61
     holders-low c fits = lt-of-high 61 (getD holders c 0) fits (λ i l. held c i ∙ ap (λ (t : Bool). t && hasLetter (setAt (b .letters) i) c) (le-ltb i 61 l))
 
-    pub tables-show : (before : List ℕ) → Columns (λ u i. hasBit (getD (b .follow) u 0) i) 61 before → tables (b .places) holders before (b .lasts) (b .credits) ≡ shows b
+    pub tables-show : (before : List ℕ) → Columns (λ u i. hasBit (getD (b .follow) u 0) i) 61 before → tables (b .positions) holders before (b .lasts) (b .credits) ≡ graphOfBuilt b
     tables-show before turned = λ k. record {
-      places = b .places;
+      positions = b .positions;
       next = λ u i. next u i k;
       last = λ u. hasBit (b .lasts) u;
       holds = λ i c. holds i c k;
       credit = λ i. getD (b .credits) i 0;
     }
       where
-        under : (u : ℕ) (t : Bool) → (t ≡ true → u ≤ b .places) → (ltb u 61 && t) ≡ t
+        under : (u : ℕ) (t : Bool) → (t ≡ true → u ≤ b .positions) → (ltb u 61 && t) ≡ t
         under u true h = let few = bounded .few in let l = h refl in ap (λ (x : Bool). x && true) (lt-ltb u 61 (omega arith))
         under u false h = and-false (ltb u 61)
 
@@ -103,4 +103,4 @@ module _ (b : Built) (bounded : Bounded (shows b)) where
         next u i = turned i u ∙ under u (hasBit (getD (b .follow) u 0) i) (bounded .next-from u i)
 
         holds : (i c : ℕ) → hasBit (getD holders c 0) i ≡ hasLetter (setAt (b .letters) i) c
-        holds i c = held c i ∙ under i (hasLetter (setAt (b .letters) i) c) (λ e. position-of (shows b) i (bounded .holds-at i c e) .1)
+        holds i c = held c i ∙ under i (hasLetter (setAt (b .letters) i) c) (λ e. position-of (graphOfBuilt b) i (bounded .holds-at i c e) .1)

@@ -3,14 +3,14 @@ use mathlib.Core.Path.{_≡_, refl, sym, ap, _∙_, subst}
 use mathlib.Core.Logic.{⊎-elim}
 use mathlib.Core.Bool.{Bool, true, false, _&&_, _||_, or-assoc, or-false, false≢true}
 use mathlib.Core.List.{List}
-use Prim.Native.Nat.{ℕ, _+_, _≤_, _<_, _%_, _^_, min}
+use Prim.Native.Nat.{ℕ, _+_, _≤_, _<_, _%_, _^_, min, max}
 use native.Mathlib.Omega.{arith}
 use lib.Dec.{eqb, ltb}
 use lib.ListN.{length, getD, set, length-set}
 use lib.Seq.{getD-set-same, getD-set-other}
 use borrow.Author.Tests.{eqb-true, lt-ltb, le-ltb}
 use Rattle.basics.specs.Choice.{if_then_else_}
-use Rattle.basics.specs.Folds.{anyIf, larger, Less}
+use Rattle.basics.specs.Folds.{anyIf, Less}
 use Rattle.basics.proofs.Tests.{and-parts, or-cases, by-equal, if-yes, if-no}
 use Rattle.basics.proofs.Folds.{fold-same}
 use Rattle.bits.specs.Bits.{hasBit, Least}
@@ -90,7 +90,7 @@ module _ (before credits : List ℕ) (from to active holds : ℕ) (counts₀ bes
               (ap (λ (x : ℕ). min x (2 ^ 63)) (fold-same 0 _+_ (hasBit m) (hasBit m) (cell counts from) (cell counts₀ from) 61 (λ i k. refl) (λ i k y. h .counted .kept (from + i) (apart i k)))));
           marked = subst (Filled to out′ (newCredit before credits active from best₀) best₀) (sym eb)
               (fill-if to out out′ t (newCredit before credits active from best t) (newCredit before credits active from best₀) (reached before active t) best₀ best (h .marked) e here roomB
-              (ap (λ (x : ℕ). (x + getD credits t 0) % 2 ^ 32) (fold-same 0 larger (hasBit m) (hasBit m) (cell best from) (cell best₀ from) 61 (λ i k. refl) (λ i k y. h .marked .kept (from + i) (apart i k)))));
+              (ap (λ (x : ℕ). (x + getD credits t 0) % 2 ^ 32) (fold-same 0 max (hasBit m) (hasBit m) (cell best from) (cell best₀ from) 61 (λ i k. refl) (λ i k y. h .marked .kept (from + i) (apart i k)))));
         }
       where
         to-be : ℕ → ℕ → Bool

@@ -4,7 +4,7 @@
 use mathlib.Core.Path.{_≡_, refl, sym, ap, ap₂, _∙_, subst}
 use mathlib.Core.Bool.{Bool, true, false, not, _&&_, and-true, and-false, and-comm, and-not-self, true≢false}
 use mathlib.Core.List.{List, [], _∷_, _++_, append-nil, append-assoc}
-use Prim.Native.Nat.{ℕ, zero, suc, _+_, _-_, _*_, _^_, _≤_, _<_, zero-le, min}
+use Prim.Native.Nat.{ℕ, zero, suc, _+_, _-_, _*_, _^_, _≤_, _<_, zero-le, min, max}
 use native.Mathlib.Nat.{add-zero, add-comm, add-assoc, mul-zero, mul-one, one-mul, mul-add, mod-eq-of-lt, lt-of-le-of-lt}
 use native.Mathlib.Omega.{arith}
 use lib.Bits.{bitAnd, and-le-r}
@@ -13,9 +13,9 @@ use lib.Dec.{eqb, ltb}
 use lib.ListN.{length, getD, length-append}
 use borrow.Author.Tests.{eqb-true, ltb-true, ltb-false}
 use Rattle.basics.specs.Choice.{if_then_else_}
-use Rattle.basics.specs.Folds.{foldIf, sumIf, mostIf, larger, Less}
+use Rattle.basics.specs.Folds.{foldIf, sumIf, mostIf, Less}
 use Rattle.basics.proofs.Tests.{and-parts, by-test, if-yes, if-no}
-use Rattle.basics.proofs.Folds.{fold-same, fold-keeps, fold-through, fold-longer, fold-where, fold-swap, larger-le, larger-none, larger-comm, larger-assoc}
+use Rattle.basics.proofs.Folds.{fold-same, fold-keeps, fold-through, fold-longer, fold-where, fold-swap, max-le, max-none, max-comm, max-assoc}
 use Rattle.bits.specs.Bits.{hasBit, Least}
 use Rattle.bits.proofs.Laws.{has-none, has-pow, has-and, least-trailing}
 use Rattle.bits.proofs.Walk.{sum-turn, most-turn, walk-end}
@@ -23,7 +23,7 @@ use Rattle.graph.specs.Graph.{Graph, isPosition, step, Bounded}
 use Rattle.graph.specs.Readings.{countFrom, readings, added, bestFrom}
 use Rattle.graph.proofs.Walks.{position-of}
 use Rattle.marks.specs.Rows.{cell, countOf, mostOf, Row, arriving, Stepped, Answered}
-use Rattle.marks.proofs.Values.{sum-cut, sum-times, added-larger, added-twice, most-less, most-added}
+use Rattle.marks.proofs.Values.{sum-cut, sum-times, added-max, added-twice, most-less, most-added}
 
 -- ---- one letter on
 
@@ -39,14 +39,14 @@ module _ (g : Graph) (bounded : Bounded g) (b : ℕ) (before : List ℕ) (active
       turned a p n true k = simp (k refl, and-true) (and-comm a n)
       turned a p n false k = simp and-false
 
-  beyond : (i : ℕ) → suc (g .places) ≤ i → hasBit r i ≡ false
+  beyond : (i : ℕ) → suc (g .positions) ≤ i → hasBit r i ≡ false
   beyond i l =
       by-test (hasBit holds i) (λ e. let p = position-of g i (bounded .holds-at i b (held i ∙ e)) in absurd (omega arith))
       (λ e. states i ∙ ap (λ (x : Bool). x && ltb 0 (arriving before active i)) e)
 
   onward : {A : Type 0} (none : A) (join : A → A → A) → ((a : A) → join a none ≡ a) → ((a c : A) → join a c ≡ join c a) → ((a c d : A) → join (join a c) d ≡ join a (join c d))
       → (act : ℕ → A → A) → ((u : ℕ) → act u none ≡ none) → ((u : ℕ) (x y : A) → act u (join x y) ≡ join (act u x) (act u y)) → (f : ℕ → A)
-      → foldIf none join (hasBit active) (λ u. act u (foldIf none join (step g u b) f (suc (g .places)))) 61
+      → foldIf none join (hasBit active) (λ u. act u (foldIf none join (step g u b) f (suc (g .positions)))) 61
       ≡ foldIf none join (hasBit r) (λ i. foldIf none join (hasBit (arriving before active i)) (λ u. act u (f i)) 61) 61
   onward {A} none join right comm assoc act z k f =
       let few = bounded .few in
@@ -58,7 +58,7 @@ module _ (g : Graph) (bounded : Bounded g) (b : ℕ) (before : List ℕ) (active
       ∙ sym (fold-longer none join (hasBit r) here n 61 (omega arith) beyond)
     where
       n : ℕ
-      n = suc (g .places)
+      n = suc (g .positions)
 
       here : ℕ → A
       here i = foldIf none join (hasBit (arriving before active i)) (λ u. act u (f i)) 61
@@ -82,7 +82,7 @@ module _ (g : Graph) (from : ℕ) (counts best : List ℕ) (one : cell counts fr
         ∙ ap (λ (x : ℕ). x * readings g t) one ∙ one-mul (readings g t));
     marked = λ t.
         let f : ℕ → ℕ = λ u. added (cell best from u) (bestFrom g u t) in
-        most-turn 61 1 0 0 (omega arith) alone others f ∙ ap (larger (f 0)) (walk-end 0 larger f 61 0 refl) ∙ larger-none (f 0)
+        most-turn 61 1 0 0 (omega arith) alone others f ∙ ap (max (f 0)) (walk-end 0 max f 61 0 refl) ∙ max-none (f 0)
         ∙ ap (λ (x : ℕ). added x (bestFrom g 0 t)) nothing ∙ as-is (bestFrom g 0 t);
     low = λ u e. let z = eqb-true 0 u (sym (has-pow 0 u) ∙ e) in subst (λ (v : ℕ). cell best from v ≤ 0) z (omega (arith, nothing));
   }
@@ -104,7 +104,7 @@ module _ (g : Graph) (bounded : Bounded g) (b : ℕ) (before credits : List ℕ)
 
   most-low : (i : ℕ) → most i ≤ 9 * length s
   most-low i =
-      fold-keeps 0 larger (λ (a : ℕ). a ≤ 9 * length s) zero-le (λ a c. larger-le a c (9 * length s)) (here i) (cell best from) 61
+      fold-keeps 0 max (λ (a : ℕ). a ≤ 9 * length s) zero-le (λ a c. max-le a c (9 * length s)) (here i) (cell best from) 61
       (λ u l e. row .low u (and-parts (hasBit (getD before i 0) u) (hasBit active u) (sym (has-and (getD before i 0) active u) ∙ e) .1))
 
   best-here : (i : ℕ) → hasBit r i ≡ true → cell best′ to i ≡ most i + g .credit i
@@ -133,10 +133,10 @@ module _ (g : Graph) (bounded : Bounded g) (b : ℕ) (before credits : List ℕ)
         (λ u. mul-zero (cell counts from u)) (λ u. mul-add (cell counts from u)) (λ i. countFrom g i t)))
         ∙ row .counted (b ∷ t) ∙ ap (λ (x : List ℕ). min (readings g x) (2 ^ 63)) (sym (append-assoc s (b ∷ []) t));
     marked = λ t.
-        fold-same 0 larger (hasBit r) (hasBit r) (λ i. added (cell best′ to i) (bestFrom g i t)) (λ i. mostIf (here i) (λ u. added (cell best from u) (added (g .credit i) (bestFrom g i t))) 61) 61
+        fold-same 0 max (hasBit r) (hasBit r) (λ i. added (cell best′ to i) (bestFrom g i t)) (λ i. mostIf (here i) (λ u. added (cell best from u) (added (g .credit i) (bestFrom g i t))) 61) 61
         (λ i l. refl) (λ i l. gathered t i)
-        ∙ sym (onward g bounded b before active holds r next held (st .states) 0 larger larger-none larger-comm larger-assoc (λ u x. added (cell best from u) x) (λ u. refl)
-        (λ u. added-larger (cell best from u)) (λ i. added (g .credit i) (bestFrom g i t)))
+        ∙ sym (onward g bounded b before active holds r next held (st .states) 0 max max-none max-comm max-assoc (λ u x. added (cell best from u) x) (λ u. refl)
+        (λ u. added-max (cell best from u)) (λ i. added (g .credit i) (bestFrom g i t)))
         ∙ row .marked (b ∷ t) ∙ ap (bestFrom g 0) (sym (append-assoc s (b ∷ []) t));
     low = λ i e.
         let c = bounded .credits i in
@@ -149,7 +149,7 @@ pub row-stop : (g : Graph) (s t : List ℕ) (from active : ℕ) (counts best : L
 row-stop g s t from active counts best z row = record {
   counted = λ q. ap (λ (x : ℕ). min x (2 ^ 63)) (none 0 _+_ (λ u. cell counts from u * countFrom g u q) (λ u. cell counts from u * countFrom g u (t ++ q)))
       ∙ row .counted (t ++ q) ∙ ap (λ (x : List ℕ). min (readings g x) (2 ^ 63)) (sym (append-assoc s t q));
-  marked = λ q. none 0 larger (λ u. added (cell best from u) (bestFrom g u q)) (λ u. added (cell best from u) (bestFrom g u (t ++ q)))
+  marked = λ q. none 0 max (λ u. added (cell best from u) (bestFrom g u q)) (λ u. added (cell best from u) (bestFrom g u (t ++ q)))
       ∙ row .marked (t ++ q) ∙ ap (bestFrom g 0) (sym (append-assoc s t q));
   low = λ u e. absurd (true≢false (sym e ∙ ap (λ (m : ℕ). hasBit m u) z ∙ has-none u));
 }
@@ -168,7 +168,7 @@ module _ (g : Graph) (s : List ℕ) (from active lasts : ℕ) (counts best : Lis
         ∙ row .counted [] ∙ ap (λ (x : List ℕ). min (readings g x) (2 ^ 63)) (append-nil s);
     marks = sym (most-less (hasBit m) (cell best from) 61)
         ∙ ap (λ (x : ℕ). x - 1)
-        (sym (fold-where 0 larger larger-none (hasBit active) (g .last) (hasBit m) (λ u. added (cell best from u) (ends u)) (λ u. suc (cell best from u)) both
+        (sym (fold-where 0 max max-none (hasBit active) (g .last) (hasBit m) (λ u. added (cell best from u) (ends u)) (λ u. suc (cell best from u)) both
         (λ u e. ap (added (cell best from u)) (yes u e) ∙ ap suc (add-zero (cell best from u))) (λ u e. ap (added (cell best from u)) (no u e)) 61)
         ∙ row .marked [] ∙ ap (bestFrom g 0) (append-nil s));
   }

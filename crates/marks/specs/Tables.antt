@@ -19,8 +19,8 @@ pub record Entered (p : ℕ → Bool) (j : ℕ) (table table′ : List ℕ) : Ty
 
 -- the graph that the tables show
 abbrev pub tables : ℕ → List ℕ → List ℕ → ℕ → List ℕ → Graph
-tables places holders before lasts credits = record {
-  places = places;
+tables positions holders before lasts credits = record {
+  positions = positions;
   next = λ u i. hasBit (getD before i 0) u;
   last = λ u. hasBit lasts u;
   holds = λ i b. hasBit (getD holders b 0) i;

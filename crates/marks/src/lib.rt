@@ -11,7 +11,7 @@ ghost use lib.ListN.{length, getD, set};
 ghost use Rattle.bits.specs.Bits.{hasBit};
 ghost use Rattle.letters.specs.LetterSet.{hasLetter};
 ghost use Rattle.graph.specs.Graph.{Bounded};
-ghost use Rattle.graph.specs.Built.{setAt, shows};
+ghost use Rattle.graph.specs.Built.{setAt, graphOfBuilt};
 ghost use Rattle.marks.specs.Rows.{cell, stored, countOf, mostOf, Outside, Stepped, Answered};
 ghost use Rattle.marks.specs.Tables.{Columns, Entered, tables};
 
@@ -34,8 +34,8 @@ const MOST: u64 = 0x8000_0000_0000_0000;
 
 // The number of readings of an answer and its mark. A byte that is no letter is held by no position.
 pub fn mark(b: Built, answer: &[u8]) -> Marked
-    requires { ⌜ Bounded (shows b) × (length (now answer) ≤ 4096) ⌝ }
-    ensures { λ r. ⌜ (r .refusal ≡ 0) × Answered (shows b) (now (answer .entry)) (r .count) (r .mark) ⌝ }
+    requires { ⌜ Bounded (graphOfBuilt b) × (length (now answer) ≤ 4096) ⌝ }
+    ensures { λ r. ⌜ (r .refusal ≡ 0) × Answered (graphOfBuilt b) (now (answer .entry)) (r .count) (r .mark) ⌝ }
 {
     let before = states_before(&b.follow);
     let holders = holders_of(b.letters);
@@ -151,7 +151,7 @@ fn step(
     out
 }
 
-// The answer, letter by letter, until no state is possible. The rows are at 0 and at 61, in turn. How many places the graph of
+// The answer, letter by letter, until no state is possible. The rows are at 0 and at 61, in turn. How many positions the graph of
 // the tables has plays no part in it, as long as that graph is within the bounds.
 fn run(
     counts: &mut [u64],
@@ -163,8 +163,8 @@ fn run(
     credits: &[u8; 61],
 ) -> Sum
     requires { ⌜ (122 ≤ length (now counts)) × (122 ≤ length (now best)) × (length (now answer) ≤ 4096) × ((b : ℕ) → getD (now holders) b 0 < 2 ^ 61) ⌝ }
-    ensures { λ r. ⌜ ((places : ℕ) → Bounded (tables places (now (holders .entry)) (now (before .entry)) lasts (now (credits .entry)))
-        → Answered (tables places (now (holders .entry)) (now (before .entry)) lasts (now (credits .entry))) (now (answer .entry)) (r .count) (r .most)) ⌝ }
+    ensures { λ r. ⌜ ((positions : ℕ) → Bounded (tables positions (now (holders .entry)) (now (before .entry)) lasts (now (credits .entry)))
+        → Answered (tables positions (now (holders .entry)) (now (before .entry)) lasts (now (credits .entry))) (now (answer .entry)) (r .count) (r .most)) ⌝ }
 {
     counts[0] = 1;
     best[0] = 0;
@@ -214,7 +214,7 @@ fn enter_letters(table: &mut [u64], members: LetterSet, j: usize)
     ensures { λ _. ⌜ Entered (hasLetter members) j (now (table .entry)) (now (table .exit)) ⌝ }
 {
     let mut left = members;
-    while !letters::is_none(left) {
+    while !letters::is_empty(left) {
         let x = letters::lowest(left) as usize;
         table[x] = bits::with(table[x], j);
         left = letters::rest(left);

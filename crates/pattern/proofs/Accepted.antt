@@ -10,8 +10,8 @@ use borrow.Author.Tests.{ltb-false, not-false}
 use Rattle.basics.specs.Choice.{if_then_else_}
 use Rattle.letters.specs.Alphabet.{allLetters}
 use Rattle.pattern.specs.Grammar.{isPattern, patternPart}
-use Rattle.pattern.specs.Positions.{atoms, places}
-use Rattle.pattern.specs.Refusals.{anyReversed, anyEmpty, patternFault}
+use Rattle.pattern.specs.Positions.{atoms, positions}
+use Rattle.pattern.specs.Refusals.{anyReversed, anyEmpty, patternRefusal}
 
 pub record Accepted (b : List ℕ) : Type 0 where
   pub short : length b ≤ 512
@@ -19,25 +19,25 @@ pub record Accepted (b : List ℕ) : Type 0 where
   pub follows-grammar : isPattern b ≡ true
   pub in-order : anyReversed (atoms (patternPart b)) ≡ false
   pub none-empty : anyEmpty (atoms (patternPart b)) ≡ false
-  pub few : places (patternPart b) ≤ 60
+  pub few : positions (patternPart b) ≤ 60
 
 passed : (t : Bool) (k r : ℕ) → (if t then suc k else r) ≡ 0 → (t ≡ false) × (r ≡ 0)
 passed true k r e = absurd (omega arith)
 passed false k r e = (refl, e)
 
-pub fault-none : (b : List ℕ) → patternFault b ≡ 0 → Accepted b
-fault-none b e =
+pub refusal-none : (b : List ℕ) → patternRefusal b ≡ 0 → Accepted b
+refusal-none b e =
     let three = passed (ltb 512 (length b)) _ _ e in
     let four = passed (not (allLetters b)) _ _ (three .1) in
     let five = passed (not (isPattern b)) _ _ (four .1) in
     let six = passed (anyReversed (atoms (patternPart b))) _ _ (five .1) in
     let seven = passed (anyEmpty (atoms (patternPart b))) _ _ (six .1) in
-    let eight = passed (ltb 60 (places (patternPart b))) _ _ (seven .1) in
+    let eight = passed (ltb 60 (positions (patternPart b))) _ _ (seven .1) in
     record {
       short = ltb-false 512 (length b) (three .0);
       letters = not-false (allLetters b) (four .0);
       follows-grammar = not-false (isPattern b) (five .0);
       in-order = six .0;
       none-empty = seven .0;
-      few = ltb-false 60 (places (patternPart b)) (eight .0);
+      few = ltb-false 60 (positions (patternPart b)) (eight .0);
     }

@@ -12,18 +12,18 @@ use Rattle.letters.specs.Alphabet.{isLetter}
 use Rattle.graph.specs.Graph.{isPosition, Bounded}
 use Rattle.pattern.specs.Parts.{Atom, holds, Part}
 use Rattle.pattern.specs.Grammar.{noAtom}
-use Rattle.pattern.specs.Positions.{atoms, places, atomAt, nextOf, lastOf, graphOf}
+use Rattle.pattern.specs.Positions.{atoms, positions, atomAt, nextOf, lastOf, graphOf}
 use Rattle.pattern.proofs.Own.{Own, first-own, last-own, follow-own}
 
 module _ (p : Part) where
   own-position : (i : ℕ) → Own 0 p i → isPosition (graphOf p) i ≡ true
-  own-position i h = and-of (leb 1 i) (leb i (places p)) (le-leb 1 i (omega arith)) (le-leb i (places p) (omega arith))
+  own-position i h = and-of (leb 1 i) (leb i (positions p)) (le-leb 1 i (omega arith)) (le-leb i (positions p) (omega arith))
 
-  next-within : (u i : ℕ) → nextOf p u i ≡ true → (u ≤ places p) × Own 0 p i
+  next-within : (u i : ℕ) → nextOf p u i ≡ true → (u ≤ positions p) × Own 0 p i
   next-within zero i e = (zero-le, first-own p 0 i e)
   next-within (suc x) i e = let w = follow-own p 0 (suc x) i e in let l = w .0 in (omega arith, w .1)
 
-  last-within : (u : ℕ) → lastOf p u ≡ true → u ≤ places p
+  last-within : (u : ℕ) → lastOf p u ≡ true → u ≤ positions p
   last-within zero e = zero-le
   last-within (suc x) e = let l = last-own p 0 (suc x) e in omega arith
 
@@ -31,9 +31,9 @@ module _ (p : Part) where
   holds-position zero b e = absurd (false≢true (sym (and-false (isLetter b)) ∙ e))
   holds-position (suc i) b e =
       ⊎-elim (λ h. absurd (false≢true (sym (ap (λ (a : Atom). holds a b) (List·getD-eq-default (atoms p) noAtom {n = i} h) ∙ and-false (isLetter b)) ∙ e)))
-      (λ h. omega arith) (le-or-lt (places p) i)
+      (λ h. omega arith) (le-or-lt (positions p) i)
 
-  pub graph-bounded : places p ≤ 60 → ((i : ℕ) → atomAt p i .credit ≤ 9) → Bounded (graphOf p)
+  pub graph-bounded : positions p ≤ 60 → ((i : ℕ) → atomAt p i .credit ≤ 9) → Bounded (graphOf p)
   graph-bounded few small = record {
     few = few;
     next-from = λ u i e. next-within u i e .0;

@@ -10,7 +10,7 @@ use lib.Dec.{eqb}
 use borrow.Author.Tests.{eqb-true, eq-eqb}
 use Rattle.basics.proofs.Tests.{and-parts, and-of, or-left, or-right, or-cases}
 use Rattle.pattern.specs.Parts.{Repeat, skips, loops, Part, letter, either, joined, again}
-use Rattle.pattern.specs.Positions.{places, canBeEmpty, isFirst, isLast, follows}
+use Rattle.pattern.specs.Positions.{positions, canBeEmpty, isFirst, isLast, follows}
 
 -- ---- the tests as one
 
@@ -25,7 +25,7 @@ abbrev pub isPlace : ℕ → Bool
 isPlace zero = false
 isPlace (suc x) = true
 
-link-either : (n : ℕ) (p q : Part) (u v : ℕ) → link n (either p q) u v ≡ (link n p u v || link (n + places p) q u v)
+link-either : (n : ℕ) (p q : Part) (u v : ℕ) → link n (either p q) u v ≡ (link n p u v || link (n + positions p) q u v)
 link-either n p q zero zero = refl
 link-either n p q zero (suc y) = refl
 link-either n p q (suc x) zero = refl
@@ -33,10 +33,10 @@ link-either n p q (suc x) (suc y) = refl
 
 -- within the left part, within the right one, or over from one to the other
 link-joined : (n : ℕ) (p q : Part) (u v : ℕ)
-    → link n (joined p q) u v ≡ ((isPlace v && link n p u v) || ((isPlace u && link (n + places p) q u v) || (link n p u 0 && link (n + places p) q 0 v)))
+    → link n (joined p q) u v ≡ ((isPlace v && link n p u v) || ((isPlace u && link (n + positions p) q u v) || (link n p u 0 && link (n + positions p) q 0 v)))
 link-joined n p q zero zero = refl
 link-joined n p q zero (suc y) = refl
-link-joined n p q (suc x) zero = ap (λ (t : Bool). isLast (n + places p) q (suc x) || t) (and-comm (canBeEmpty q) (isLast n p (suc x)))
+link-joined n p q (suc x) zero = ap (λ (t : Bool). isLast (n + positions p) q (suc x) || t) (and-comm (canBeEmpty q) (isLast n p (suc x)))
 link-joined n p q (suc x) (suc y) = refl
 
 -- ---- the same as a type
@@ -46,9 +46,9 @@ Link n (letter a) zero zero = ⊥
 Link n (letter a) zero (suc y) = y ≡ n
 Link n (letter a) (suc x) zero = x ≡ n
 Link n (letter a) (suc x) (suc y) = ⊥
-Link n (either p q) u v = Link n p u v ⊎ Link (n + places p) q u v
+Link n (either p q) u v = Link n p u v ⊎ Link (n + positions p) q u v
 Link n (joined p q) u v =
-    ((isPlace v ≡ true) × Link n p u v) ⊎ (((isPlace u ≡ true) × Link (n + places p) q u v) ⊎ (Link n p u 0 × Link (n + places p) q 0 v))
+    ((isPlace v ≡ true) × Link n p u v) ⊎ (((isPlace u ≡ true) × Link (n + positions p) q u v) ⊎ (Link n p u 0 × Link (n + positions p) q 0 v))
 Link n (again k p) zero zero = (skips k ≡ true) ⊎ Link n p 0 0
 Link n (again k p) zero (suc y) = Link n p 0 (suc y)
 Link n (again k p) (suc x) zero = Link n p (suc x) 0
@@ -78,11 +78,11 @@ link-says (letter a) n zero zero = says-never
 link-says (letter a) n zero (suc y) = says-same y n
 link-says (letter a) n (suc x) zero = says-same x n
 link-says (letter a) n (suc x) (suc y) = says-never
-link-says (either p q) n u v = rw (link-either n p q u v) (says-or (link-says p n u v) (link-says q (n + places p) u v))
+link-says (either p q) n u v = rw (link-either n p q u v) (says-or (link-says p n u v) (link-says q (n + positions p) u v))
 link-says (joined p q) n u v =
     rw (link-joined n p q u v)
     (says-or (says-and (says-itself (isPlace v)) (link-says p n u v))
-    (says-or (says-and (says-itself (isPlace u)) (link-says q (n + places p) u v)) (says-and (link-says p n u 0) (link-says q (n + places p) 0 v))))
+    (says-or (says-and (says-itself (isPlace u)) (link-says q (n + positions p) u v)) (says-and (link-says p n u 0) (link-says q (n + positions p) 0 v))))
 link-says (again k p) n zero zero = says-or (says-itself (skips k)) (link-says p n 0 0)
 link-says (again k p) n zero (suc y) = link-says p n 0 (suc y)
 link-says (again k p) n (suc x) zero = link-says p n (suc x) 0

@@ -7,7 +7,7 @@ use mathlib.Core.Bool.{true, false≢true}
 use mathlib.Core.List.{List, _∷_, _++_}
 use Prim.Native.Nat.{ℕ, zero, suc, _+_}
 use Rattle.pattern.specs.Parts.{Atom, holds, Repeat, loops, Part, letter, either, joined, again}
-use Rattle.pattern.specs.Positions.{places}
+use Rattle.pattern.specs.Positions.{positions}
 use Rattle.pattern.specs.Texts.{Text, one, inLeft, inRight, both, never, once, more}
 use Rattle.pattern.proofs.Link.{Link, isPlace}
 use Rattle.pattern.proofs.Own.{Own}
@@ -30,24 +30,24 @@ module _ (at : ℕ → Atom) where
   stay-left n p q u v h (inl e) = e
   stay-left n p q u v h (inr e) = absurd (not-right n p q u v h e)
 
-  stay-right : (n : ℕ) (p q : Part) (u v : ℕ) → Own (n + places p) q u → Link n (either p q) u v → Link (n + places p) q u v
+  stay-right : (n : ℕ) (p q : Part) (u v : ℕ) → Own (n + positions p) q u → Link n (either p q) u v → Link (n + positions p) q u v
   stay-right n p q u v h (inl e) = absurd (not-left n p q u v h e)
   stay-right n p q u v h (inr e) = e
 
   -- ---- one part then another
 
-  keep-right : (n : ℕ) (p q : Part) (u v : ℕ) → Own (n + places p) q u → Link n (joined p q) u v → Link (n + places p) q u v
+  keep-right : (n : ℕ) (p q : Part) (u v : ℕ) → Own (n + positions p) q u → Link n (joined p q) u v → Link (n + positions p) q u v
   keep-right n p q u v h (inl e) = absurd (not-left n p q u v h (e .1))
   keep-right n p q u v h (inr (inl e)) = e .1
   keep-right n p q u v h (inr (inr e)) = absurd (not-left n p q u 0 h (e .0))
 
   data Two (n : ℕ) (p q : Part) (u : ℕ) : List ℕ → Type 0 where
-    two : {s t : List ℕ} → Runs n p u s → Runs (n + places p) q 0 t → Two n p q u (s ++ t)
+    two : {s t : List ℕ} → Runs n p u s → Runs (n + positions p) q 0 t → Two n p q u (s ++ t)
 
   two-step : {n : ℕ} {p q : Part} {u b x : ℕ} {s : List ℕ} → Link n p u (suc x) → Holds at (suc x) b → Two n p q (suc x) s → Two n p q u (b ∷ s)
   two-step {x = x} e d (two r t) = two (step x e d r) t
 
-  not-yet : (n : ℕ) (p q : Part) (u v : ℕ) → Within n p u → (isPlace u ≡ true) × Link (n + places p) q u v → ⊥
+  not-yet : (n : ℕ) (p q : Part) (u v : ℕ) → Within n p u → (isPlace u ≡ true) × Link (n + positions p) q u v → ⊥
   not-yet n p q zero v h e = false≢true (e .0)
   not-yet n p q (suc x) v h e = not-right n p q (suc x) v h (e .1)
 
@@ -58,9 +58,9 @@ module _ (at : ℕ → Atom) where
   split n p q u h (step x (inl e) d r) = two-step (e .1) d (split n p q (suc x) (within p n u (suc x) (e .1) .1) r)
   split n p q u h (step x (inr (inl e)) d r) = absurd (not-yet n p q u (suc x) h e)
   split n p q u h (step x (inr (inr e)) d r) =
-      two (end (e .0)) (step x (e .1) d (stays n (joined p q) (n + places p) q (keep-right n p q) (within q (n + places p) 0 (suc x) (e .1) .1) r))
+      two (end (e .0)) (step x (e .1) d (stays n (joined p q) (n + positions p) q (keep-right n p q) (within q (n + positions p) 0 (suc x) (e .1) .1) r))
 
-  both-of : (n : ℕ) (p q : Part) → ((s : List ℕ) → Runs n p 0 s → Text p s) → ((s : List ℕ) → Runs (n + places p) q 0 s → Text q s)
+  both-of : (n : ℕ) (p q : Part) → ((s : List ℕ) → Runs n p 0 s → Text p s) → ((s : List ℕ) → Runs (n + positions p) q 0 s → Text q s)
       → {s : List ℕ} → Two n p q 0 s → Text (joined p q) s
   both-of n p q f g (two r t) = both p q _ _ (f _ r) (g _ t)
 
@@ -90,13 +90,13 @@ module _ (at : ℕ → Atom) where
   run-text (letter a) n g (step {b = b} x e d (end f)) = one a b (ap (λ (c : Atom). holds c b) (sym (agree-one at n a g)) ∙ (rw e at d))
   run-text (letter a) n g (step x e d (step y f l r)) = absurd f
   run-text (either p q) n g (end (inl e)) = inLeft p q _ (run-text p n (agree-left at n p q g) (end e))
-  run-text (either p q) n g (end (inr e)) = inRight p q _ (run-text q (n + places p) (agree-right at n p q g) (end e))
+  run-text (either p q) n g (end (inr e)) = inRight p q _ (run-text q (n + positions p) (agree-right at n p q g) (end e))
   run-text (either p q) n g (step x (inl e) d r) =
       inLeft p q _ (run-text p n (agree-left at n p q g) (step x e d (stays n (either p q) n p (stay-left n p q) (within p n 0 (suc x) e .1) r)))
   run-text (either p q) n g (step x (inr e) d r) =
       inRight p q _
-      (run-text q (n + places p) (agree-right at n p q g) (step x e d (stays n (either p q) (n + places p) q (stay-right n p q) (within q (n + places p) 0 (suc x) e .1) r)))
-  run-text (joined p q) n g r = both-of n p q (λ s r. run-text p n (agree-left at n p q g) r) (λ s r. run-text q (n + places p) (agree-right at n p q g) r) (split n p q 0 tt r)
+      (run-text q (n + positions p) (agree-right at n p q g) (step x e d (stays n (either p q) (n + positions p) q (stay-right n p q) (within q (n + positions p) 0 (suc x) e .1) r)))
+  run-text (joined p q) n g r = both-of n p q (λ s r. run-text p n (agree-left at n p q g) r) (λ s r. run-text q (n + positions p) (agree-right at n p q g) r) (split n p q 0 tt r)
   run-text (again k p) n g (end (inl e)) = never k p e
   run-text (again k p) n g (end (inr e)) = once k p _ (run-text p n g (end e))
   run-text (again k p) n g (step x e d r) =

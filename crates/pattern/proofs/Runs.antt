@@ -6,7 +6,7 @@ use mathlib.Core.Bool.{true}
 use mathlib.Core.List.{List, [], _∷_, _++_}
 use Prim.Native.Nat.{ℕ, suc, _+_}
 use Rattle.pattern.specs.Parts.{Atom, holds, Repeat, loops, Part, joined, again}
-use Rattle.pattern.specs.Positions.{places}
+use Rattle.pattern.specs.Positions.{positions}
 use Rattle.pattern.specs.Texts.{Text, one, inLeft, inRight, both, never, once, more}
 use Rattle.pattern.proofs.Link.{Link, isPlace, again-on, again-over}
 use Rattle.pattern.proofs.Within.{Agree, agree-one, agree-left, agree-right}
@@ -27,10 +27,10 @@ module _ {Fits : ℕ → ℕ → Type 0} where
   run-on f r = run-keep (λ u. Unit {0}) (λ u v h e. f u v e) (λ u y h e. tt) tt r
 
   -- ---- a part then another: from a position of the right one; over from the left one
-  pub run-right : {n : ℕ} {p q : Part} {x v : ℕ} {s : List ℕ} → Run Fits (n + places p) q (suc x) s v → Run Fits n (joined p q) (suc x) s v
+  pub run-right : {n : ℕ} {p q : Part} {x v : ℕ} {s : List ℕ} → Run Fits (n + positions p) q (suc x) s v → Run Fits n (joined p q) (suc x) s v
   run-right r = run-keep (λ u. isPlace u ≡ true) (λ u v h e. inr (inl (h, e))) (λ u y h e. refl) refl r
 
-  pub run-join : {n : ℕ} {p q : Part} {u v : ℕ} {s t : List ℕ} → Run Fits n p u s 0 → Run Fits (n + places p) q 0 t v → Run Fits n (joined p q) u (s ++ t) v
+  pub run-join : {n : ℕ} {p q : Part} {u v : ℕ} {s t : List ℕ} → Run Fits n p u s 0 → Run Fits (n + positions p) q 0 t v → Run Fits n (joined p q) u (s ++ t) v
   run-join (end e) (end f) = end (inr (inr (e, f)))
   run-join (end e) (step x f d r) = step x (inr (inr (e, f))) d (run-right r)
   run-join (step x e d r) t = step x (inl (refl, e)) d (run-join r t)
@@ -48,8 +48,8 @@ Holds at x b = holds (at x) b ≡ true
 pub text-run : (at : ℕ → Atom) {p : Part} {s : List ℕ} → Text p s → (n : ℕ) → Agree at n p → Run (Holds at) n p 0 s 0
 text-run at (one a b h) n g = step n refl (ap (λ (c : Atom). holds c b) (agree-one at n a g) ∙ h) (end refl)
 text-run at (inLeft p q s x) n g = run-on (λ u v e. inl e) (text-run at x n (agree-left at n p q g))
-text-run at (inRight p q s x) n g = run-on (λ u v e. inr e) (text-run at x (n + places p) (agree-right at n p q g))
-text-run at (both p q s t x y) n g = run-join (text-run at x n (agree-left at n p q g)) (text-run at y (n + places p) (agree-right at n p q g))
+text-run at (inRight p q s x) n g = run-on (λ u v e. inr e) (text-run at x (n + positions p) (agree-right at n p q g))
+text-run at (both p q s t x y) n g = run-join (text-run at x n (agree-left at n p q g)) (text-run at y (n + positions p) (agree-right at n p q g))
 text-run at (never k p l) n g = end (inl l)
 text-run at (once k p s x) n g = run-on (again-on k n p) (text-run at x n g)
 text-run at (more k p s t l x y) n g = run-more l (text-run at x n g) (text-run at y n g)

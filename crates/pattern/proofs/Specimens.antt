@@ -14,7 +14,7 @@ use Rattle.basics.specs.Folds.{foldIf}
 use Rattle.letters.specs.Alphabet.{someFrom}
 use Rattle.graph.specs.Readings.{readings, mark}
 use Rattle.pattern.specs.Grammar.{patternPart}
-use Rattle.pattern.specs.Refusals.{patternFault}
+use Rattle.pattern.specs.Refusals.{patternRefusal}
 use Rattle.pattern.specs.Positions.{graphOf}
 
 -- a pattern and an answer, the refusal (0 for none), and where there is none the count and the mark
@@ -143,8 +143,8 @@ right r =
     let p = r .pattern in
     let g = graphOf (patternPart p) in
     let a = r .answer in
-    eqb (patternFault p) (r .refusal)
-    && (if eqb (patternFault p) 0 then eqb (readings g a) (r .count) && eqb (mark g a) (r .credit) else true)
+    eqb (patternRefusal p) (r .refusal)
+    && (if eqb (patternRefusal p) 0 then eqb (readings g a) (r .count) && eqb (mark g a) (r .credit) else true)
 
 abbrev allRight : List Row → Bool
 allRight [] = true

@@ -19,13 +19,13 @@ use Rattle.graph.proofs.Walks.{position-of}
 use Rattle.graph.specs.Trim.{Route, Useful, Trim}
 use Rattle.pattern.specs.Parts.{Atom, holds, Part, letter, either, joined, again}
 use Rattle.pattern.specs.Grammar.{noAtom, patternPart}
-use Rattle.pattern.specs.Positions.{atoms, places, atomAt, graphOf}
-use Rattle.pattern.specs.Refusals.{anyEmpty, patternFault}
+use Rattle.pattern.specs.Positions.{atoms, positions, atomAt, graphOf}
+use Rattle.pattern.specs.Refusals.{anyEmpty, patternRefusal}
 use Rattle.pattern.proofs.Link.{Link, again-on}
-use Rattle.pattern.proofs.Within.{places-joined}
+use Rattle.pattern.proofs.Within.{positions-joined}
 use Rattle.pattern.proofs.Runs.{Run, end, step, run-on, run-right, run-join}
 use Rattle.pattern.proofs.Texts.{next-link, last-link, link-position}
-use Rattle.pattern.proofs.Accepted.{fault-none}
+use Rattle.pattern.proofs.Accepted.{refusal-none}
 
 -- ---- runs by their positions
 
@@ -41,18 +41,18 @@ way-left (step x e d k) = step x (inl (refl, e)) d (way-left k)
 record Through (n : ℕ) (p : Part) : Type 0 where
   by : List ℕ
   way : Way n p 0 by 0
-  short : length by ≤ places p
+  short : length by ≤ positions p
 
 through : (p : Part) (n : ℕ) → Through n p
 through (letter a) n = record { by = suc n ∷ []; way = step n refl refl (end refl); short = omega arith }
 through (either p q) n =
     let t = through p n in
-    let z = places-joined p q in
+    let z = positions-joined p q in
     record { by = t .by; way = run-on (λ u v e. inl e) (t .way); short = omega arith }
 through (joined p q) n =
     let t = through p n in
-    let s = through q (n + places p) in
-    let z = places-joined p q in
+    let s = through q (n + positions p) in
+    let z = positions-joined p q in
     record { by = t .by ++ s .by; way = run-join (t .way) (s .way); short = simp length-append (omega arith) }
 through (again k p) n = let t = through p n in record { by = t .by; way = run-on (again-on k n p) (t .way); short = t .short }
 
@@ -60,12 +60,12 @@ through (again k p) n = let t = through p n in record { by = t .by; way = run-on
 record Passed (n : ℕ) (p : Part) (x : ℕ) : Type 0 where
   before : List ℕ
   to : Way n p 0 before (suc x)
-  few-before : length before < places p
+  few-before : length before < positions p
   after : List ℕ
   from : Way n p (suc x) after 0
-  few-after : length after < places p
+  few-after : length after < positions p
 
-passed-on : {n l : ℕ} {p w : Part} {x : ℕ} → ((u v : ℕ) → Link n p u v → Link l w u v) → places p ≤ places w → Passed n p x → Passed l w x
+passed-on : {n l : ℕ} {p w : Part} {x : ℕ} → ((u v : ℕ) → Link n p u v → Link l w u v) → positions p ≤ positions w → Passed n p x → Passed l w x
 passed-on f z t = record {
   before = t .before;
   to = run-on f (t .to);
@@ -77,8 +77,8 @@ passed-on f z t = record {
 
 passed-left : {n : ℕ} {p q : Part} {x : ℕ} → Passed n p x → Passed n (joined p q) x
 passed-left {n} {p} {q} t =
-    let s = through q (n + places p) in
-    let z = places-joined p q in
+    let s = through q (n + positions p) in
+    let z = positions-joined p q in
     record {
       before = t .before;
       to = way-left (t .to);
@@ -88,10 +88,10 @@ passed-left {n} {p} {q} t =
       few-after = simp length-append (omega arith);
     }
 
-passed-right : {n : ℕ} {p q : Part} {x : ℕ} → Passed (n + places p) q x → Passed n (joined p q) x
+passed-right : {n : ℕ} {p q : Part} {x : ℕ} → Passed (n + positions p) q x → Passed n (joined p q) x
 passed-right {n} {p} {q} t =
     let s = through p n in
-    let z = places-joined p q in
+    let z = positions-joined p q in
     record {
       before = s .by ++ t .before;
       to = run-join (s .way) (t .to);
@@ -101,17 +101,17 @@ passed-right {n} {p} {q} t =
       few-after = omega arith;
     }
 
-passed : (p : Part) (n x : ℕ) → n ≤ x → x < n + places p → Passed n p x
+passed : (p : Part) (n x : ℕ) → n ≤ x → x < n + positions p → Passed n p x
 passed (letter a) n x g l =
     let e : x ≡ n = omega arith in
     record { before = []; to = end e; few-before = omega arith; after = []; from = end e; few-after = omega arith }
 passed (either p q) n x g l =
-    let z = places-joined p q in
-    ⊎-elim (λ r. passed-on (λ u v e. inr e) (omega arith) (passed q (n + places p) x r (omega arith))) (λ r. passed-on (λ u v e. inl e) (omega arith) (passed p n x g r))
-    (le-or-lt (n + places p) x)
+    let z = positions-joined p q in
+    ⊎-elim (λ r. passed-on (λ u v e. inr e) (omega arith) (passed q (n + positions p) x r (omega arith))) (λ r. passed-on (λ u v e. inl e) (omega arith) (passed p n x g r))
+    (le-or-lt (n + positions p) x)
 passed (joined p q) n x g l =
-    let z = places-joined p q in
-    ⊎-elim (λ r. passed-right (passed q (n + places p) x r (omega arith))) (λ r. passed-left (passed p n x g r)) (le-or-lt (n + places p) x)
+    let z = positions-joined p q in
+    ⊎-elim (λ r. passed-right (passed q (n + positions p) x r (omega arith))) (λ r. passed-left (passed p n x g r)) (le-or-lt (n + positions p) x)
 passed (again k p) n x g l = passed-on (again-on k n p) (omega arith) (passed p n x g l)
 
 -- ---- ways are routes of the graph
@@ -155,11 +155,11 @@ lettered : (p : Part) → anyEmpty (atoms p) ≡ false → (i : ℕ) → isPosit
 lettered p e zero h = absurd (omega (arith, position-of (graphOf p) 0 h))
 lettered p e (suc j) h = let i = position-of (graphOf p) (suc j) h in some-letter (atoms p) j e (omega arith)
 
-pub trim : (b : List ℕ) → patternFault b ≡ 0 → Trim (graphOf (patternPart b))
+pub trim : (b : List ℕ) → patternRefusal b ≡ 0 → Trim (graphOf (patternPart b))
 trim b e =
     let p = patternPart b in
     record {
       letters = λ i c h. and-parts (isLetter c) _ h .0;
-      lettered = lettered p (fault-none b e .none-empty);
+      lettered = lettered p (refusal-none b e .none-empty);
       useful = useful p;
     }

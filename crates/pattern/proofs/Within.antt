@@ -1,4 +1,4 @@
--- With n positions to its left, a part's own are n + 1 to n + places: its links lead to no others, and the atoms there are its
+-- With n positions to its left, a part's own are n + 1 to n + positions: its links lead to no others, and the atoms there are its
 -- atoms. So the positions of two parts side by side are never the same. Assumes nothing.
 use mathlib.Core.Path.{_≡_, ap, _∙_}
 use Prim.Native.Nat.{ℕ, zero, suc, _+_, _<_}
@@ -8,12 +8,12 @@ use lib.ListN.{length-append, getD, List·getD-append}
 use lib.Seq.{getD-append-add}
 use Rattle.pattern.specs.Parts.{Atom, Part, letter, joined}
 use Rattle.pattern.specs.Grammar.{noAtom}
-use Rattle.pattern.specs.Positions.{atoms, places, atomAt}
+use Rattle.pattern.specs.Positions.{atoms, positions, atomAt}
 use Rattle.pattern.proofs.Link.{Link, link-says}
 use Rattle.pattern.proofs.Own.{Own, first-own, last-own, follow-own}
 
-pub places-joined : (p q : Part) → places (joined p q) ≡ places p + places q
-places-joined p q = length-append (atoms p) (atoms q)
+pub positions-joined : (p q : Part) → positions (joined p q) ≡ positions p + positions q
+positions-joined p q = length-append (atoms p) (atoms q)
 
 -- ---- links stay within
 
@@ -29,11 +29,11 @@ within p n (suc x) zero h = (last-own p n (suc x) (link-says p n (suc x) 0 .0 h)
 within p n (suc x) (suc y) h = follow-own p n (suc x) (suc y) (link-says p n (suc x) (suc y) .0 h)
 
 -- a position of the left part has no link in the right one, nor one of the right in the left
-pub not-right : (n : ℕ) (p q : Part) (u v : ℕ) → Own n p u → Link (n + places p) q u v → ⊥
+pub not-right : (n : ℕ) (p q : Part) (u v : ℕ) → Own n p u → Link (n + positions p) q u v → ⊥
 not-right n p q zero v h e = omega arith
-not-right n p q (suc x) v h e = let w = within q (n + places p) (suc x) v e .0 in omega arith
+not-right n p q (suc x) v h e = let w = within q (n + positions p) (suc x) v e .0 in omega arith
 
-pub not-left : (n : ℕ) (p q : Part) (u v : ℕ) → Own (n + places p) q u → Link n p u v → ⊥
+pub not-left : (n : ℕ) (p q : Part) (u v : ℕ) → Own (n + positions p) q u → Link n p u v → ⊥
 not-left n p q zero v h e = omega arith
 not-left n p q (suc x) v h e = let w = within p n (suc x) v e .0 in omega arith
 
@@ -41,19 +41,19 @@ not-left n p q (suc x) v h e = let w = within p n (suc x) v e .0 in omega arith
 
 module _ (at : ℕ → Atom) where
   abbrev pub Agree : ℕ → Part → Type 0
-  Agree n p = (j : ℕ) → j < places p → at (suc (n + j)) ≡ getD (atoms p) j noAtom
+  Agree n p = (j : ℕ) → j < positions p → at (suc (n + j)) ≡ getD (atoms p) j noAtom
 
   pub agree-one : (n : ℕ) (a : Atom) → Agree n (letter a) → at (suc n) ≡ a
   agree-one n a g = rw add-zero at (g 0 (omega arith))
 
   pub agree-left : (n : ℕ) (p q : Part) → Agree n (joined p q) → Agree n p
-  agree-left n p q g j l = let z = places-joined p q in g j (omega arith) ∙ List·getD-append (atoms p) (atoms q) noAtom j l
+  agree-left n p q g j l = let z = positions-joined p q in g j (omega arith) ∙ List·getD-append (atoms p) (atoms q) noAtom j l
 
-  pub agree-right : (n : ℕ) (p q : Part) → Agree n (joined p q) → Agree (n + places p) q
+  pub agree-right : (n : ℕ) (p q : Part) → Agree n (joined p q) → Agree (n + positions p) q
   agree-right n p q g j l =
-      let z = places-joined p q in
-      let e : suc (n + places p + j) ≡ suc (n + (places p + j)) = omega arith in
-      ap at e ∙ g (places p + j) (omega arith) ∙ getD-append-add (atoms p) (atoms q) j noAtom
+      let z = positions-joined p q in
+      let e : suc (n + positions p + j) ≡ suc (n + (positions p + j)) = omega arith in
+      ap at e ∙ g (positions p + j) (omega arith) ∙ getD-append-add (atoms p) (atoms q) j noAtom
 
 pub agree-whole : (p : Part) → Agree (atomAt p) 0 p
 agree-whole p j l = ap (λ (i : ℕ). getD (atoms p) i noAtom) (zero-add j)

@@ -15,8 +15,8 @@ atoms (either p q) = atoms p ++ atoms q
 atoms (joined p q) = atoms p ++ atoms q
 atoms (again k p) = atoms p
 
-abbrev pub places : Part → ℕ
-places p = length (atoms p)
+abbrev pub positions : Part → ℕ
+positions p = length (atoms p)
 
 abbrev pub atomAt : Part → ℕ → Atom
 atomAt p zero = noAtom
@@ -29,28 +29,28 @@ canBeEmpty (either p q) = canBeEmpty p || canBeEmpty q
 canBeEmpty (joined p q) = canBeEmpty p && canBeEmpty q
 canBeEmpty (again k p) = skips k || canBeEmpty p
 
--- Below, n positions stand to the left of the part, so that its own are n + 1 to n + places.
+-- Below, n positions stand to the left of the part, so that its own are n + 1 to n + positions.
 
 -- [Firsts] is x one: of a lettered atom itself; of branches those of all; of a joining those of A, and of B where A can be empty;
 -- of a repeat those of its atom
 abbrev pub isFirst : ℕ → Part → ℕ → Bool
 isFirst n (letter a) x = eqb x (suc n)
-isFirst n (either p q) x = isFirst n p x || isFirst (n + places p) q x
-isFirst n (joined p q) x = isFirst n p x || (canBeEmpty p && isFirst (n + places p) q x)
+isFirst n (either p q) x = isFirst n p x || isFirst (n + positions p) q x
+isFirst n (joined p q) x = isFirst n p x || (canBeEmpty p && isFirst (n + positions p) q x)
 isFirst n (again k p) x = isFirst n p x
 
 -- [Lasts] is x one: the same, but of a joining those of B, and of A where B can be empty
 abbrev pub isLast : ℕ → Part → ℕ → Bool
 isLast n (letter a) x = eqb x (suc n)
-isLast n (either p q) x = isLast n p x || isLast (n + places p) q x
-isLast n (joined p q) x = isLast (n + places p) q x || (canBeEmpty q && isLast n p x)
+isLast n (either p q) x = isLast n p x || isLast (n + positions p) q x
+isLast n (joined p q) x = isLast (n + positions p) q x || (canBeEmpty q && isLast n p x)
 isLast n (again k p) x = isLast n p x
 
 -- [Follows] may y come after x: in a joining a first of B after a last of A; with `*` and `+` a first of the atom after a last
 abbrev pub follows : ℕ → Part → ℕ → ℕ → Bool
 follows n (letter a) x y = false
-follows n (either p q) x y = follows n p x y || follows (n + places p) q x y
-follows n (joined p q) x y = follows n p x y || (follows (n + places p) q x y || (isLast n p x && isFirst (n + places p) q y))
+follows n (either p q) x y = follows n p x y || follows (n + positions p) q x y
+follows n (joined p q) x y = follows n p x y || (follows (n + positions p) q x y || (isLast n p x && isFirst (n + positions p) q y))
 follows n (again k p) x y = follows n p x y || (loops k && (isLast n p x && isFirst n p y))
 
 -- ---- [States] 0 before any letter, or a position
@@ -66,7 +66,7 @@ lastOf p (suc x) = isLast 0 p (suc x)
 
 abbrev pub graphOf : Part → Graph
 graphOf p = record {
-  places = places p;
+  positions = positions p;
   next = nextOf p;
   last = lastOf p;
   holds = λ i b. holds (atomAt p i) b;

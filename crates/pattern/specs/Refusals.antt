@@ -9,7 +9,7 @@ use Rattle.letters.specs.Alphabet.{allLetters, someLetter}
 use Rattle.graph.specs.Graph.{Graph, noGraph}
 use Rattle.pattern.specs.Parts.{Item, Atom, holds}
 use Rattle.pattern.specs.Grammar.{isPattern, patternPart}
-use Rattle.pattern.specs.Positions.{atoms, places, patternGraph}
+use Rattle.pattern.specs.Positions.{atoms, positions, patternGraph}
 
 -- [Refusals of a pattern] 6: a range from a higher code to a lower one
 abbrev pub someReversed : List Item → Bool
@@ -26,16 +26,16 @@ anyEmpty [] = false
 anyEmpty (a ∷ al) = not (someLetter (holds a)) || anyEmpty al
 
 -- [Refusals of a pattern] the first of 3 to 8 that applies; 0 where none does, and the pattern is accepted
-abbrev pub patternFault : List ℕ → ℕ
-patternFault s =
+abbrev pub patternRefusal : List ℕ → ℕ
+patternRefusal s =
     if ltb 512 (length s) then 3
     else if not (allLetters s) then 4
     else if not (isPattern s) then 5
     else if anyReversed (atoms (patternPart s)) then 6
     else if anyEmpty (atoms (patternPart s)) then 7
-    else if ltb 60 (places (patternPart s)) then 8
+    else if ltb 60 (positions (patternPart s)) then 8
     else 0
 
 -- the graph that a pattern is built into: its own if it is accepted, otherwise the one without positions
 abbrev pub builtGraph : List ℕ → Graph
-builtGraph s = if eqb (patternFault s) 0 then patternGraph s else noGraph
+builtGraph s = if eqb (patternRefusal s) 0 then patternGraph s else noGraph

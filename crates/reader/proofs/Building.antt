@@ -17,11 +17,11 @@ use Rattle.letters.specs.LetterSet.{hasLetter}
 use Rattle.letters.specs.declared.LetterSet.{LetterSet}
 use Rattle.letters.proofs.Sets.{zero-none}
 use Rattle.graph.specs.Graph.{noGraph, Bounded}
-use Rattle.graph.specs.Built.{shows}
+use Rattle.graph.specs.Built.{graphOfBuilt}
 use Rattle.graph.specs.declared.Built.{Built}
 use Rattle.pattern.specs.Parts.{Atom, holds, Part}
 use Rattle.pattern.specs.Grammar.{noAtom}
-use Rattle.pattern.specs.Positions.{atoms, places, atomAt, isFirst, isLast, follows, nextOf, lastOf, graphOf}
+use Rattle.pattern.specs.Positions.{atoms, positions, atomAt, isFirst, isLast, follows, nextOf, lastOf, graphOf}
 use Rattle.pattern.proofs.Own.{first-own, last-own, follow-own}
 use Rattle.pattern.proofs.Bounds.{graph-bounded}
 use Rattle.reader.specs.Rows.{kept, Whole}
@@ -30,9 +30,9 @@ use Rattle.reader.specs.declared.parts.Parsed.{Parsed}
 use Rattle.reader.specs.declared.scan.Scanned.{Scanned}
 
 pub none-shown : (none : LetterSet) → ((c : ℕ) → hasLetter none c ≡ false)
-    → shows record { places = 0; follow = replicate 61 0; lasts = 0; letters = replicate 61 none; credits = replicate 61 0 } ≡ noGraph
+    → graphOfBuilt record { positions = 0; follow = replicate 61 0; lasts = 0; letters = replicate 61 none; credits = replicate 61 0 } ≡ noGraph
 none-shown none empty = λ t. record {
-  places = 0;
+  positions = 0;
   next = λ u i. alike (λ (m : ℕ). hasBit m i ≡ false) 61 0 0 (has-none i) (has-none i) u t;
   last = λ u. has-none u t;
   holds = λ i c. alike (λ (s : LetterSet). hasLetter s c ≡ false) 61 none record { low = 0; high = 0 } (empty c) (zero-none record { low = 0; high = 0 } refl refl c) i t;
@@ -40,12 +40,12 @@ none-shown none empty = λ t. record {
 }
 
 -- an atom of up to 60 is stored
-atom-at : (x : Part) → places x ≤ 60 → (i : ℕ) → atomOf (atoms x) i ≡ atomAt x i
+atom-at : (x : Part) → positions x ≤ 60 → (i : ℕ) → atomOf (atoms x) i ≡ atomAt x i
 atom-at x few zero = refl
 atom-at x few (suc i) = ap (λ (l : List Atom). getD l i noAtom) (take-all 60 (atoms x) few)
 
 -- so what a scan found bounds the credits
-pub found-bounded : (x : Part) (f : Scanned) → Describes (atoms x) f → places x ≤ 60 → Bounded (graphOf x)
+pub found-bounded : (x : Part) (f : Scanned) → Describes (atoms x) f → positions x ≤ 60 → Bounded (graphOf x)
 found-bounded x f d few = graph-bounded x few (λ i. subst (λ (n : ℕ). n ≤ 9) (d .credit i ∙ ap (λ (a : Atom). a .credit) (atom-at x few i)) (d .small i))
 
 -- a guard that a test implies
@@ -55,10 +55,10 @@ guard a false h = and-false a
 
 module _ (p : Parsed) (f : Scanned) (lasts : ℕ) (some : 0 < length (p .follow)) (ends : (j : ℕ) → hasBit lasts j ≡ (hasBit (p .lasts) j || (p .empty && eqb 0 j))) where
   abbrev made : Built
-  made = record { places = p .n; follow = set (p .follow) 0 (p .firsts); lasts = lasts; letters = f .letters; credits = f .credits }
+  made = record { positions = p .n; follow = set (p .follow) 0 (p .firsts); lasts = lasts; letters = f .letters; credits = f .credits }
 
-  module _ (x : Part) (w : Whole x p) (d : Describes (atoms x) f) (few : places x ≤ 60) where
-    next-at : (u i : ℕ) → shows made .next u i ≡ nextOf x u i
+  module _ (x : Part) (w : Whole x p) (d : Describes (atoms x) f) (few : positions x ≤ 60) where
+    next-at : (u i : ℕ) → graphOfBuilt made .next u i ≡ nextOf x u i
     next-at zero i =
         ap (λ (m : ℕ). hasBit m i) (getD-set-same (p .follow) 0 (p .firsts) 0 some) ∙ w .firsts i
         ∙ guard (kept i) (isFirst 0 x i) (λ e. let o = first-own x 0 i e in lt-ltb i 61 (omega arith))
@@ -67,7 +67,7 @@ module _ (p : Parsed) (f : Scanned) (lasts : ℕ) (some : 0 < length (p .follow)
         ∙ guard (kept (suc u) && kept i) (follows 0 x (suc u) i)
         (λ e. let o = follow-own x 0 (suc u) i e in let q = o .0 in let r = o .1 in and-of (kept (suc u)) (kept i) (lt-ltb (suc u) 61 (omega arith)) (lt-ltb i 61 (omega arith)))
 
-    last-at : (u : ℕ) → shows made .last u ≡ lastOf x u
+    last-at : (u : ℕ) → graphOfBuilt made .last u ≡ lastOf x u
     last-at zero = ends 0 ∙ ap₂ _||_ (w .lasts 0 ∙ no-zero (isLast 0 x 0) (λ e. omega (arith, last-own x 0 0 e))) (and-true (p .empty)) ∙ w .empty
       where
         no-zero : (b : Bool) → (b ≡ true → ⊥) → b ≡ false
@@ -77,9 +77,9 @@ module _ (p : Parsed) (f : Scanned) (lasts : ℕ) (some : 0 < length (p .follow)
         ends (suc u) ∙ ap₂ _||_ (w .lasts (suc u) ∙ guard (kept (suc u)) (isLast 0 x (suc u)) (λ e. let o = last-own x 0 (suc u) e in lt-ltb (suc u) 61 (omega arith)))
         (ap (λ (b : Bool). p .empty && b) (ne-eqb 0 (suc u) (λ z. omega arith)) ∙ and-false (p .empty)) ∙ or-false (isLast 0 x (suc u))
 
-    pub built-shown : shows made ≡ graphOf x
+    pub built-shown : graphOfBuilt made ≡ graphOf x
     built-shown = λ t. record {
-      places = w .count t;
+      positions = w .count t;
       next = λ u i. next-at u i t;
       last = λ u. last-at u t;
       holds = λ i c. (d .has i c ∙ ap (λ (a : Atom). holds a c) (atom-at x few i)) t;

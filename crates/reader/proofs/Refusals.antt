@@ -13,11 +13,11 @@ use Rattle.basics.specs.Lists.{Each}
 use Rattle.basics.proofs.Tests.{and-when, same-test, if-yes, if-no}
 use Rattle.letters.specs.Alphabet.{allLetters}
 use Rattle.graph.specs.Graph.{noGraph, Bounded}
-use Rattle.graph.specs.Built.{shows}
+use Rattle.graph.specs.Built.{graphOfBuilt}
 use Rattle.graph.proofs.Bounds.{none-bounded}
 use Rattle.pattern.specs.Grammar.{readPattern, isPattern, patternPart}
-use Rattle.pattern.specs.Positions.{atoms, places, patternGraph}
-use Rattle.pattern.specs.Refusals.{anyReversed, anyEmpty, patternFault, builtGraph}
+use Rattle.pattern.specs.Positions.{atoms, positions, patternGraph}
+use Rattle.pattern.specs.Refusals.{anyReversed, anyEmpty, patternRefusal, builtGraph}
 use Rattle.reader.specs.Rows.{Parses}
 use Rattle.reader.specs.Read.{Reads, Refuses}
 use Rattle.reader.specs.declared.parts.Parsed.{Parsed}
@@ -52,7 +52,7 @@ module _ (s : List ℕ) where
   abbrev pub tests : List Bool
   tests =
       ltb 512 (length s) ∷ not (allLetters s) ∷ not (isPattern s) ∷ anyReversed (atoms (patternPart s)) ∷ anyEmpty (atoms (patternPart s))
-      ∷ ltb 60 (places (patternPart s)) ∷ []
+      ∷ ltb 60 (positions (patternPart s)) ∷ []
 
   -- the first n tests do not apply
   abbrev pub Passes : ℕ → Type 0
@@ -61,17 +61,17 @@ module _ (s : List ℕ) where
   -- the test number n applies and none before it
   pub refuses : (n : ℕ) (r : ReadPattern) → Passes n → getD tests n false ≡ true → Refuses (3 + n) r → Reads s r
   refuses n r h e w =
-      let fault : patternFault s ≡ 3 + n = first-is 3 tests n h e in
-      let none : builtGraph s ≡ noGraph = if-no (patternGraph s) noGraph (eqb (patternFault s) 0) (ne-eqb (patternFault s) 0 (λ z. omega arith)) in
+      let fault : patternRefusal s ≡ 3 + n = first-is 3 tests n h e in
+      let none : builtGraph s ≡ noGraph = if-no (patternGraph s) noGraph (eqb (patternRefusal s) 0) (ne-eqb (patternRefusal s) 0 (λ z. omega arith)) in
       record { refusal = w .refusal ∙ sym fault; graph = w .graph ∙ sym none; bounded = subst Bounded (sym (w .graph)) none-bounded }
 
   -- none applies
-  pub accepts : (r : ReadPattern) → Passes 6 → r .refusal ≡ 0 → shows (r .built) ≡ patternGraph s → Bounded (patternGraph s) → Reads s r
+  pub accepts : (r : ReadPattern) → Passes 6 → r .refusal ≡ 0 → graphOfBuilt (r .built) ≡ patternGraph s → Bounded (patternGraph s) → Reads s r
   accepts r h z same bounds =
       let fault = first-none 3 tests h in
       record {
         refusal = z ∙ sym fault;
-        graph = same ∙ sym (if-yes (patternGraph s) noGraph (eqb (patternFault s) 0) (eq-eqb (patternFault s) 0 fault));
+        graph = same ∙ sym (if-yes (patternGraph s) noGraph (eqb (patternRefusal s) 0) (eq-eqb (patternRefusal s) 0 fault));
         bounded = subst Bounded (sym same) bounds;
       }
 

@@ -16,7 +16,7 @@ use Rattle.basics.proofs.Folds.{less-here, less-other}
 use Rattle.bits.specs.Bits.{hasBit, Least}
 use Rattle.bits.proofs.Laws.{has-none}
 use Rattle.pattern.specs.Parts.{Atom, Repeat, skips, loops, Part, letter, either, joined, again}
-use Rattle.pattern.specs.Positions.{atoms, places, isFirst, isLast, follows}
+use Rattle.pattern.specs.Positions.{atoms, positions, isFirst, isLast, follows}
 use Rattle.reader.specs.declared.parts.Parsed.{Parsed}
 use Rattle.reader.specs.Rows.{kept, Marks, Adds, Linked, Has, Whole}
 
@@ -121,10 +121,10 @@ module _ (n : ℕ) (rows : List ℕ) (p : Part) (a : Parsed) (ha : Has n rows p 
 
   -- and a part after it
   module _ (q : Part) (b : Parsed) (hb : Has (a .n) (a .follow) q b) where
-    after : Has (n + places p) (a .follow) q b
+    after : Has (n + positions p) (a .follow) q b
     after = subst (λ (m : ℕ). Has m (a .follow) q b) (ha .count) hb
 
-    counted : b .n ≡ n + places (joined p q)
+    counted : b .n ≡ n + positions (joined p q)
     counted = omega (arith, ha .count, hb .count, length-append (atoms p) (atoms q))
 
     pub has-either : (firsts lasts : ℕ) → ((j : ℕ) → hasBit firsts j ≡ (hasBit (a .firsts) j || hasBit (b .firsts) j))
@@ -133,9 +133,9 @@ module _ (n : ℕ) (rows : List ℕ) (p : Part) (a : Parsed) (ha : Has n rows p 
     has-either firsts lasts f l = record {
       count = counted;
       empty = ap₂ _||_ (ha .empty) (hb .empty);
-      firsts = marks-if firsts (a .firsts) (b .firsts) (isFirst n p) (isFirst (n + places p) q) true f (ha .firsts) (after .firsts);
-      lasts = marks-if lasts (a .lasts) (b .lasts) (isLast n p) (isLast (n + places p) q) true l (ha .lasts) (after .lasts);
-      adds = adds-both rows (a .follow) (b .follow) (follows n p) (follows (n + places p) q) (ha .adds) (after .adds);
+      firsts = marks-if firsts (a .firsts) (b .firsts) (isFirst n p) (isFirst (n + positions p) q) true f (ha .firsts) (after .firsts);
+      lasts = marks-if lasts (a .lasts) (b .lasts) (isLast n p) (isLast (n + positions p) q) true l (ha .lasts) (after .lasts);
+      adds = adds-both rows (a .follow) (b .follow) (follows n p) (follows (n + positions p) q) (ha .adds) (after .adds);
     }
 
     pub has-joined : (firsts lasts : ℕ) (linked : List ℕ) → Linked (b .follow) (a .lasts) (b .firsts) linked
@@ -146,15 +146,15 @@ module _ (n : ℕ) (rows : List ℕ) (p : Part) (a : Parsed) (ha : Has n rows p 
       count = counted;
       empty = ap₂ _&&_ (ha .empty) (hb .empty);
       firsts =
-          subst (λ (e : Bool). Marks firsts (λ j. isFirst n p j || (e && isFirst (n + places p) q j))) (ha .empty)
-          (marks-if firsts (a .firsts) (b .firsts) (isFirst n p) (isFirst (n + places p) q) (a .empty) f (ha .firsts) (after .firsts));
+          subst (λ (e : Bool). Marks firsts (λ j. isFirst n p j || (e && isFirst (n + positions p) q j))) (ha .empty)
+          (marks-if firsts (a .firsts) (b .firsts) (isFirst n p) (isFirst (n + positions p) q) (a .empty) f (ha .firsts) (after .firsts));
       lasts =
-          subst (λ (e : Bool). Marks lasts (λ j. isLast (n + places p) q j || (e && isLast n p j))) (hb .empty)
-          (marks-if lasts (b .lasts) (a .lasts) (isLast (n + places p) q) (isLast n p) (b .empty) l (after .lasts) (ha .lasts));
+          subst (λ (e : Bool). Marks lasts (λ j. isLast (n + positions p) q j || (e && isLast n p j))) (hb .empty)
+          (marks-if lasts (b .lasts) (a .lasts) (isLast (n + positions p) q) (isLast n p) (b .empty) l (after .lasts) (ha .lasts));
       adds =
-          adds-both rows (a .follow) linked (follows n p) (λ x y. follows (n + places p) q x y || (isLast n p x && isFirst (n + places p) q y)) (ha .adds)
-          (adds-both (a .follow) (b .follow) linked (follows (n + places p) q) (λ x y. isLast n p x && isFirst (n + places p) q y) (after .adds)
-          (adds-linked (b .follow) linked (a .lasts) (b .firsts) (isLast n p) (isFirst (n + places p) q) k (ha .lasts) (after .firsts)));
+          adds-both rows (a .follow) linked (follows n p) (λ x y. follows (n + positions p) q x y || (isLast n p x && isFirst (n + positions p) q y)) (ha .adds)
+          (adds-both (a .follow) (b .follow) linked (follows (n + positions p) q) (λ x y. isLast n p x && isFirst (n + positions p) q y) (after .adds)
+          (adds-linked (b .follow) linked (a .lasts) (b .firsts) (isLast n p) (isFirst (n + positions p) q) k (ha .lasts) (after .firsts)));
     }
 
 -- ---- nothing before
@@ -166,7 +166,7 @@ no-rows (suc k) (suc a) = no-rows k a
 
 pub has-whole : (k : ℕ) (p : Part) (r : Parsed) → Has 0 (replicate k 0) p r → Whole p r
 has-whole k p r h = record {
-  count = h .count ∙ zero-add (places p);
+  count = h .count ∙ zero-add (positions p);
   empty = h .empty;
   firsts = h .firsts;
   lasts = h .lasts;

@@ -11,7 +11,7 @@ use Rattle.basics.specs.Choice.{if_then_else_}
 use Rattle.bits.specs.Bits.{hasBit}
 use Rattle.pattern.specs.Parts.{Repeat, skips, loops, Part, again}
 use Rattle.pattern.specs.Grammar.{Read, read, broken, peek, readPattern, patternPart}
-use Rattle.pattern.specs.Positions.{places, canBeEmpty, isFirst, isLast, follows}
+use Rattle.pattern.specs.Positions.{positions, canBeEmpty, isFirst, isLast, follows}
 use Rattle.reader.specs.declared.parts.Parsed.{Parsed}
 
 -- ---- sets and rows of positions
@@ -40,7 +40,7 @@ Linked before lasts firsts r = (a b : ℕ) → hasBit (getD r a 0) b ≡ (hasBit
 
 -- the result r has what the part p has, with n positions to its left and their rows
 pub record Has (n : ℕ) (rows : List ℕ) (p : Part) (r : Parsed) : Type 0 where
-  pub count : r .n ≡ n + places p
+  pub count : r .n ≡ n + positions p
   pub empty : r .empty ≡ canBeEmpty p
   pub firsts : Marks (r .firsts) (isFirst n p)
   pub lasts : Marks (r .lasts) (isLast n p)
@@ -102,7 +102,7 @@ Combines combine empty firsts lasts b r =
 
 -- the result has what the part has that a text begins with
 pub record Whole (p : Part) (r : Parsed) : Type 0 where
-  pub count : r .n ≡ places p
+  pub count : r .n ≡ positions p
   pub empty : r .empty ≡ canBeEmpty p
   pub firsts : Marks (r .firsts) (isFirst 0 p)
   pub lasts : Marks (r .lasts) (isLast 0 p)

@@ -19,12 +19,12 @@ pub struct ReadPattern {
 fn refused(refusal: u8) -> ReadPattern
     ensures { λ r. ⌜ Refuses refusal r ⌝ }
 {
-    let none = letters::none();
+    let none = letters::empty();
     let sets = [none; 61];
     let rows = [0u64; 61];
     let credits = [0u8; 61];
     let built = Built {
-        places: 0,
+        positions: 0,
         follow: rows,
         lasts: 0,
         letters: sets,
@@ -50,7 +50,7 @@ fn built(p: Parsed, f: Scanned) -> Built
     let sets = f.letters;
     let credits = f.credits;
     Built {
-        places: p.n,
+        positions: p.n,
         follow: rows,
         lasts: lasts,
         letters: sets,

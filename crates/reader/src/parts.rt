@@ -51,7 +51,7 @@ fn position(n: usize) -> u64
 fn joined_if(yes: bool, x: u64, y: u64) -> u64
     ensures { λ r. ⌜ ((b : ℕ) → hasBit r b ≡ (hasBit x b || (yes && hasBit y b))) ⌝ }
 {
-    if yes { bits::joined(x, y) } else { x }
+    if yes { bits::union(x, y) } else { x }
 }
 
 // The rows, and each of firsts may follow each of lasts that has a row.
@@ -59,10 +59,10 @@ fn link(rows: [u64; 61], lasts: u64, firsts: u64) -> [u64; 61]
     ensures { λ r. ⌜ Linked rows lasts firsts r ⌝ }
 {
     let mut out = rows;
-    let mut left = bits::both(bits::below(61), lasts);
+    let mut left = bits::intersection(bits::below(61), lasts);
     while left != 0 {
         let a = bits::lowest(left);
-        out[a] = bits::joined(out[a], firsts);
+        out[a] = bits::union(out[a], firsts);
         left = bits::rest(left);
     }
     out
@@ -146,8 +146,8 @@ fn either(empty: bool, firsts: u64, lasts: u64, b: Parsed) -> Parsed
 {
     let mut out = b;
     out.empty = empty | b.empty;
-    out.firsts = bits::joined(firsts, b.firsts);
-    out.lasts = bits::joined(lasts, b.lasts);
+    out.firsts = bits::union(firsts, b.firsts);
+    out.lasts = bits::union(lasts, b.lasts);
     out
 }
 

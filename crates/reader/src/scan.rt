@@ -26,7 +26,7 @@ pub struct Scanned {
 fn start() -> Scanned
     ensures { λ r. ⌜ (r .at ≡ 0) × Describes [] r ⌝ }
 {
-    let none = letters::none();
+    let none = letters::empty();
     let letters = [none; 61];
     let credits = [0u8; 61];
     Scanned {
@@ -66,7 +66,7 @@ fn with_atom(f: Scanned, a: Lettered) -> Scanned
         letters: letters,
         credits: credits,
         reversed: f.reversed | a.reversed,
-        hollow: f.hollow | letters::is_none(set),
+        hollow: f.hollow | letters::is_empty(set),
     }
 }
 

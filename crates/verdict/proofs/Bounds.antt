@@ -24,7 +24,7 @@ use Rattle.verdict.specs.Evidence.{times, ShowsSteady, ShowsRunaway}
 use Rattle.verdict.proofs.Steady.{steady}
 use Rattle.verdict.proofs.Doubling.{doubling}
 use Rattle.verdict.proofs.Pivots.{no-pivot}
-use Rattle.verdict.proofs.Shows.{unambiguous, steady-shows, runaway-shows, runaway-rounds}
+use Rattle.verdict.proofs.Shows.{unambiguous, steady-graphOfBuilt, runaway-graphOfBuilt, runaway-rounds}
 
 -- ---- the three verdicts
 
@@ -79,9 +79,9 @@ module _ (g : Graph) (trim : Trim g) where
   single = (
     λ v s l. by-verdict g (λ e a. single-most a s) (λ e a. absurd (omega arith)) (λ e d. absurd (omega arith)),
     λ h. by-verdict g (λ e a. e)
-        (λ e a. let w = steady-shows g trim a in let two = steady-shown g (w .0) (w .1) in let one = h (w .0) (w .1 .letters) in absurd (omega arith))
+        (λ e a. let w = steady-graphOfBuilt g trim a in let two = steady-shown g (w .0) (w .1) in let one = h (w .0) (w .1 .letters) in absurd (omega arith))
         (λ e d.
-        let w = runaway-shows g trim d in
+        let w = runaway-graphOfBuilt g trim d in
         let x = w .0 in
         let y = w .1 in
         let z = w .2 in
@@ -92,16 +92,16 @@ module _ (g : Graph) (trim : Trim g) where
   )
 
   -- not runaway: a text of m letters has at most (m + 2) ^ (2 p)
-  pub bounded : (verdict g ≡ 2 → ⊥) → (s : List ℕ) → readings g s ≤ (length s + 2) ^ (2 * g .places)
+  pub bounded : (verdict g ≡ 2 → ⊥) → (s : List ℕ) → readings g s ≤ (length s + 2) ^ (2 * g .positions)
   bounded n s =
       let e : firstPivot g ≡ 0 = by-equal (firstPivot g) 0 (λ z. z) (λ d. absurd (n (is-runaway g d))) in
-      readings-bound g s ((length s + 2) ^ (2 * g .places))
+      readings-bound g s ((length s + 2) ^ (2 * g .positions))
       (λ rs a h. steady g (no-pivot g trim e) 0 s rs a (each-map (λ (r : List ℕ). isReading g s r ≡ true) (Walk g 0 s) (λ r k. reads-walk g 0 s r k .0) rs h))
 
   -- steady: there is a text to show
   pub steady-can : verdict g ≡ 1 → (s : List ℕ) × ShowsSteady g s
-  steady-can v = by-verdict g (λ e a. absurd (omega arith)) (λ e a. steady-shows g trim a) (λ e d. absurd (omega arith))
+  steady-can v = by-verdict g (λ e a. absurd (omega arith)) (λ e a. steady-graphOfBuilt g trim a) (λ e d. absurd (omega arith))
 
   -- runaway: there are texts to show
   pub runaway-can : verdict g ≡ 2 → (x : List ℕ) × (y : List ℕ) × (z : List ℕ) × ShowsRunaway g x y z
-  runaway-can v = by-verdict g (λ e a. absurd (omega arith)) (λ e a. absurd (omega arith)) (λ e d. runaway-shows g trim d)
+  runaway-can v = by-verdict g (λ e a. absurd (omega arith)) (λ e a. absurd (omega arith)) (λ e d. runaway-graphOfBuilt g trim d)

@@ -129,7 +129,7 @@ module _ (g : Graph) where
 
   abbrev pub numberOf : Bool → Pair → ℕ
   numberOf false t = t .left - 1
-  numberOf true t = g .places + pairNumber g t
+  numberOf true t = g .positions + pairNumber g t
 
   abbrev pub Met : Bool → Pair → Type 0
   Met f t = Placed g t × (f ≡ false → t .left ≡ t .right)

@@ -43,20 +43,20 @@ module _ (g : Graph) where
   -- ---- positions told apart by numbers below p, pairs of them by numbers below p * p
 
   abbrev pub pairNumber : Pair → ℕ
-  pairNumber t = (t .left - 1) * g .places + (t .right - 1)
+  pairNumber t = (t .left - 1) * g .positions + (t .right - 1)
 
-  pub place-low : (i : ℕ) → isPosition g i ≡ true → i - 1 < g .places
+  pub place-low : (i : ℕ) → isPosition g i ≡ true → i - 1 < g .positions
   place-low i h = let p = position-of g i h in omega arith
 
   pub place-told : (i j : ℕ) → isPosition g i ≡ true → isPosition g j ≡ true → i - 1 ≡ j - 1 → i ≡ j
   place-told i j h k e = let p = position-of g i h in let q = position-of g j k in omega arith
 
-  pub pair-low : (t : Pair) → Placed t → pairNumber t < g .places * g .places
+  pub pair-low : (t : Pair) → Placed t → pairNumber t < g .positions * g .positions
   pair-low t h = digits-lt (place-low (t .left) (h .0)) (place-low (t .right) (h .1))
 
   pub pair-told : (t u : Pair) → Placed t → Placed u → pairNumber t ≡ pairNumber u → t ≡ u
   pair-told t u h k e =
-      let d = digits-same (g .places) (t .left - 1) (t .right - 1) (u .left - 1) (u .right - 1) (place-low (t .right) (h .1)) (place-low (u .right) (k .1)) e in
+      let d = digits-same (g .positions) (t .left - 1) (t .right - 1) (u .left - 1) (u .right - 1) (place-low (t .right) (h .1)) (place-low (u .right) (k .1)) e in
       pair-same t u (place-told (t .left) (u .left) (h .0) (k .0) (d .0)) (place-told (t .right) (u .right) (h .1) (k .1) (d .1))
 
   -- ---- a chain is two walks; what one side does, the other does

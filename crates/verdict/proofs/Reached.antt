@@ -28,16 +28,16 @@ module _ (g : Graph) where
 
   pub pair-found : (f : ℕ → ℕ → Bool) → somePair g f ≡ true → FoundPair f
   pair-found f h =
-      let a = any-found (isPosition g) (λ i. anyIf (isPosition g) (f i) (suc (g .places))) (suc (g .places)) h in
-      let b = any-found (isPosition g) (f (a .i)) (suc (g .places)) (a .holds) in
+      let a = any-found (isPosition g) (λ i. anyIf (isPosition g) (f i) (suc (g .positions))) (suc (g .positions)) h in
+      let b = any-found (isPosition g) (f (a .i)) (suc (g .positions)) (a .holds) in
       record { at = pair (a .i) (b .i); placed = (a .member, b .member); holds = b .holds }
 
   pub some-pair : (f : ℕ → ℕ → Bool) (t : Pair) → Placed g t → f (t .left) (t .right) ≡ true → somePair g f ≡ true
   some-pair f t h k =
       let l = position-of g (t .left) (h .0) in
       let m = position-of g (t .right) (h .1) in
-      any-true (isPosition g) (λ i. anyIf (isPosition g) (f i) (suc (g .places))) (suc (g .places)) (t .left) (omega arith) (h .0)
-      (any-true (isPosition g) (f (t .left)) (suc (g .places)) (t .right) (omega arith) (h .1) k)
+      any-true (isPosition g) (λ i. anyIf (isPosition g) (f i) (suc (g .positions))) (suc (g .positions)) (t .left) (omega arith) (h .0)
+      (any-true (isPosition g) (f (t .left)) (suc (g .positions)) (t .right) (omega arith) (h .1) k)
 
   -- ---- a step
 
@@ -107,9 +107,9 @@ module _ (g : Graph) where
   -- ---- any number of steps
 
   pub reaches-way : (t z : Pair) → Placed g z → reaches g t (z .left) (z .right) ≡ true → Way (Beside g) t z
-  reaches-way = reached-way (g .places * g .places)
+  reaches-way = reached-way (g .positions * g .positions)
 
   pub way-reaches : (t z : Pair) → Way (Beside g) t z → reaches g t (z .left) (z .right) ≡ true
   way-reaches t z w =
-      let s = short (Beside g) (pairNumber g) (Placed g) (g .places * g .places) (pair-low g) (pair-told g) (λ x y b. b .placed) t z w in
-      subst (λ (x : Pair). reaches g t (x .left) (x .right) ≡ true) (s .ends) (chain-reached (g .places * g .places) t (s .nodes) (s .goes) (s .few))
+      let s = short (Beside g) (pairNumber g) (Placed g) (g .positions * g .positions) (pair-low g) (pair-told g) (λ x y b. b .placed) t z w in
+      subst (λ (x : Pair). reaches g t (x .left) (x .right) ≡ true) (s .ends) (chain-reached (g .positions * g .positions) t (s .nodes) (s .goes) (s .few))

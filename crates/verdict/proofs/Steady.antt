@@ -95,11 +95,11 @@ module _ (g : Graph) (np : NoPivot g) (u : ℕ) (s : List ℕ) where
     again = rw y at (last m r q .here (omega arith));
   }
 
-  told : (r v : List ℕ) → Walk g u s r → Walk g u s v → ((q : ℕ) → q < g .places → visits m r q ≡ visits m v q) → r ≡ v
+  told : (r v : List ℕ) → Walk g u s r → Walk g u s v → ((q : ℕ) → q < g .positions → visits m r q ≡ visits m v q) → r ≡ v
   told r v a b same = ext-getD 0 r v (walk-length g u s r a ∙ sym (walk-length g u s v b))
       (λ i l. at i (omega (arith, walk-length g u s r a)) (getD r i 0) refl (position-of g (getD r i 0) (walk-position g u i s r l a)))
     where
-      at : (i : ℕ) → i < m → (q : ℕ) → getD r i 0 ≡ q → (1 ≤ q) × (q ≤ g .places) → getD r i 0 ≡ getD v i 0
+      at : (i : ℕ) → i < m → (q : ℕ) → getD r i 0 ≡ q → (1 ≤ q) × (q ≤ g .positions) → getD r i 0 ≡ getD v i 0
       at i l zero e p = absurd (omega arith)
       at i l (suc q) e p =
           let f : ℕ = first m r (suc q) .at in
@@ -111,6 +111,6 @@ module _ (g : Graph) (np : NoPivot g) (u : ℕ) (s : List ℕ) where
           (returns r a (suc q) f k refl refl (omega arith) (omega arith))
           (returns v b (suc q) f k (sym (ap (λ x. x .0) (same q (p .1)))) (sym (ap (λ x. x .1) (same q (p .1)))) (omega arith) (omega arith))
 
-pub steady : (g : Graph) → NoPivot g → (u : ℕ) (s : List ℕ) (rs : List (List ℕ)) → Apart rs → Each (Walk g u s) rs → length rs ≤ (length s + 2) ^ (2 * g .places)
-steady g np u s = pigeon-digits (visits (length s)) (Walk g u s) (length s + 2) (g .places)
+pub steady : (g : Graph) → NoPivot g → (u : ℕ) (s : List ℕ) (rs : List (List ℕ)) → Apart rs → Each (Walk g u s) rs → length rs ≤ (length s + 2) ^ (2 * g .positions)
+steady g np u s = pigeon-digits (visits (length s)) (Walk g u s) (length s + 2) (g .positions)
     (λ r w q. (omega (arith, first (length s) r (suc q) .within), omega (arith, last (length s) r (suc q) .within))) (told g np u s)

@@ -24,7 +24,7 @@ times (suc k) y = y ++ times k y
 
 -- [Steady texts] the most letters of one, and of y: p² + p
 abbrev pub longest : Graph → ℕ
-longest g = g .places * g .places + g .places
+longest g = g .positions * g .positions + g .positions
 
 -- [Steady texts] a text with two different readings
 pub record ShowsSteady (g : Graph) (s : List ℕ) : Type 0 where
@@ -41,10 +41,10 @@ pub record ShowsSteady (g : Graph) (s : List ℕ) : Type 0 where
 pub record ShowsRunaway (g : Graph) (x y z : List ℕ) : Type 0 where
   pub letters : allLetters (x ++ (y ++ z)) ≡ true
   pub some-x : 1 ≤ length x
-  pub short-x : length x ≤ g .places
+  pub short-x : length x ≤ g .positions
   pub some-y : 1 ≤ length y
   pub short-y : length y ≤ longest g
-  pub short-z : length z ≤ g .places
+  pub short-z : length z ≤ g .positions
   pub way-in : List ℕ
   pub loop : List ℕ
   pub other : List ℕ

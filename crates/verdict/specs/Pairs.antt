@@ -25,7 +25,7 @@ letterShown g a b = lowestLetter (bothHold g a b)
 
 -- does a test hold of some pair of positions
 abbrev pub somePair : Graph → (ℕ → ℕ → Bool) → Bool
-somePair g f = anyIf (isPosition g) (λ a. anyIf (isPosition g) (f a) (suc (g .places))) (suc (g .places))
+somePair g f = anyIf (isPosition g) (λ a. anyIf (isPosition g) (f a) (suc (g .positions))) (suc (g .positions))
 
 -- one letter on, both paths can move from t to the positions a and b
 abbrev pub beside : Graph → Pair → ℕ → ℕ → Bool

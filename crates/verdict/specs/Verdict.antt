@@ -11,7 +11,7 @@ use Rattle.verdict.specs.Pairs.{Pair, pair, somePair, reached}
 
 -- p² letters lead to every pair that any number of them leads to
 abbrev pub reaches : Graph → Pair → ℕ → ℕ → Bool
-reaches g t c d = reached g (g .places * g .places) t c d
+reaches g t c d = reached g (g .positions * g .positions) t c d
 
 -- two paths from state u over one text part, and come from there to a pair that passes a test
 abbrev pub partsTo : Graph → ℕ → (ℕ → ℕ → Bool) → Bool
@@ -27,7 +27,7 @@ isPivot g q = partsTo g q (λ c d. eqb c q && eqb d q)
 
 -- [Pivots] all of them in rising order, and the first, 0 where there is none
 abbrev pub pivots : Graph → List ℕ
-pivots g = listIf (λ q. isPosition g q && isPivot g q) (suc (g .places))
+pivots g = listIf (λ q. isPosition g q && isPivot g q) (suc (g .positions))
 
 abbrev pub firstPivot : Graph → ℕ
 firstPivot g = getD (pivots g) 0 0

@@ -20,7 +20,7 @@ use Rattle.letters.specs.Alphabet.{someLetter, lowestLetter}
 use Rattle.letters.proofs.Alphabet.{lowest-letter, letter-some}
 use Rattle.graph.specs.declared.Built.{Built}
 use Rattle.graph.specs.Graph.{Graph, isPosition}
-use Rattle.graph.specs.Built.{shows}
+use Rattle.graph.specs.Built.{graphOfBuilt}
 use Rattle.graph.specs.Trim.{Route, Useful}
 use Rattle.graph.proofs.Walks.{position-of}
 use Rattle.verdict.specs.Pairs.{bothHold, shares, letterShown}
@@ -40,15 +40,15 @@ use Rattle.walk.specs.Tables.{Rows, Shares}
 use Rattle.walk.specs.Texts.{held, letterAt, Showable, written, Told, Shown}
 use Rattle.walk.specs.Answers.{Vettable, vetted, Judged}
 use Rattle.walk.proofs.Nodes.{left-low, right-low, sides}
-use Rattle.walk.proofs.Linking.{shares-swap, places}
+use Rattle.walk.proofs.Linking.{shares-swap, positions}
 use Rattle.walk.proofs.Searching.{goal-low, bothIn, parted, short-nodes, shown-codes, some-parts, none-parts, letterOf, chain-route, route-chain}
 use Rattle.walk.proofs.Pivoting.{onlyAt, equal-swap}
 
 -- ---- what is returned
 
 -- a verdict whose texts are shown
-pub judges : {g : Graph} {e e′ : List ℕ} {v l m n : ℕ} {r : Vetted} → r ≡ vetted (g .places) v l m n → Vets g e e′ v l m n → Judged g e e′ r
-judges {g} {e} {e′} is h = subst (Judged g e e′) (sym is) (record { refusal = refl; places = refl; vets = h })
+pub judges : {g : Graph} {e e′ : List ℕ} {v l m n : ℕ} {r : Vetted} → r ≡ vetted (g .positions) v l m n → Vets g e e′ v l m n → Judged g e e′ r
+judges {g} {e} {e′} is h = subst (Judged g e e′) (sym is) (record { refusal = refl; positions = refl; vets = h })
 
 -- ---- texts one after the other
 
@@ -64,7 +64,7 @@ begins-more p y e e′ e″ n m a b h k =
 
 module _ {b : Built} (fit : Vettable b) where
   abbrev g : Graph
-  g = shows b
+  g = graphOfBuilt b
 
   pub rows-of : Rows g (b .follow)
   rows-of = record {
@@ -81,7 +81,7 @@ module _ {b : Built} (fit : Vettable b) where
       let l = lowestLetter (g .holds a) in
       letter-some (bothHold g a a) l (c .0) (and-of (g .holds a l) (g .holds a l) (c .1) (c .1))
 
-  pub shares-of : (S : List ℕ) → ((a c : ℕ) → a ≤ b .places → c ≤ b .places → hasBit (getD S a 0) c ≡ someLetter (held (b .letters) a c)) → Shares g S
+  pub shares-of : (S : List ℕ) → ((a c : ℕ) → a ≤ b .positions → c ≤ b .positions → hasBit (getD S a 0) c ≡ someLetter (held (b .letters) a c)) → Shares g S
   shares-of S h =
       record { share = λ a c k l. let p = position-of g a k in let q = position-of g c l in h a c (omega arith) (omega arith); own = own }
 
@@ -126,7 +126,7 @@ module _ {b : Built} (fit : Vettable b) where
     walks : Parting g u test
     text : map (letterAt (b .letters)) nodes ≡ shown g (walks .one) (walks .other)
 
-  two-walks : {S : List ℕ} → Shares g S → {m : ℕ} (test : ℕ → ℕ → Bool) → ((c d : ℕ) → bothIn m c d ≡ test c d) → {e e′ : List ℕ} {u base r : ℕ} → u ≤ g .places
+  two-walks : {S : List ℕ} → Shares g S → {m : ℕ} (test : ℕ → ℕ → Bool) → ((c d : ℕ) → bothIn m c d ≡ test c d) → {e e′ : List ℕ} {u base r : ℕ} → u ≤ g .positions
       → (t : Told (b .letters) (b .follow) S e e′ (onlyAt m) u base r) → Walks (t .nodes) u test
   two-walks sh {m} test same {u = u} l t =
       let w = parted rows-of sh (onlyAt m) refl u l (t .nodes) (t .goes) (t .meets) in
@@ -148,38 +148,38 @@ module _ {b : Built} (fit : Vettable b) where
   route-each u [] h = tt
   route-each u (i ∷ r) h = (h .0, route-each i r (h .2))
 
-  route-end : (u : ℕ) (r : List ℕ) → u ≤ g .places → Route g u r → endOf u r ≤ g .places
+  route-end : (u : ℕ) (r : List ℕ) → u ≤ g .positions → Route g u r → endOf u r ≤ g .positions
   route-end u [] l h = l
   route-end u (i ∷ r) l h = route-end i r (position-of g i (h .0) .1) (h .2)
 
   abbrev stateIn : ℕ → Goal
   stateIn m = record { mask = m; parted = false }
 
-  goal-at : (m u : ℕ) (r : List ℕ) → u ≤ g .places → Route g u r → isGoal (stateIn m) (endOf u r) ≡ hasBit m (endOf u r)
+  goal-at : (m u : ℕ) (r : List ℕ) → u ≤ g .positions → Route g u r → isGoal (stateIn m) (endOf u r) ≡ hasBit m (endOf u r)
   goal-at m u r l h = goal-low (stateIn m) (endOf u r) (omega (arith, route-end u r l h))
 
   -- with no letters shared, a chain of nodes is a route
   record Routed (nodes : List ℕ) (u m : ℕ) : Type 0 where
     route : Route g u nodes
     meets : hasBit m (endOf u nodes) ≡ true
-    short : length nodes ≤ g .places
+    short : length nodes ≤ g .positions
     text : map (letterAt (b .letters)) nodes ≡ shown g nodes nodes
 
   abbrev ToldRoute : List ℕ → List ℕ → ℕ → ℕ → ℕ → ℕ → Type 0
   ToldRoute e e′ m u base r = Told (b .letters) (b .follow) (replicate 61 0) e e′ (stateIn m) u base r
 
-  routed : {m : ℕ} {e e′ : List ℕ} {u base r : ℕ} → u ≤ g .places → (t : ToldRoute e e′ m u base r) → Routed (t .nodes) u m
+  routed : {m : ℕ} {e e′ : List ℕ} {u base r : ℕ} → u ≤ g .positions → (t : ToldRoute e e′ m u base r) → Routed (t .nodes) u m
   routed {m} {u = u} l t =
       let h = chain-route rows-of u (t .nodes) (t .goes) in
       record {
         route = h;
         meets = sym (goal-at m u (t .nodes) l h) ∙ t .meets;
-        short = pigeon (λ (i : ℕ). i - 1) (λ (i : ℕ). isPosition g i ≡ true) (g .places) (place-low g) (place-told g) (t .nodes) (t .apart) (route-each u (t .nodes) h);
+        short = pigeon (λ (i : ℕ). i - 1) (λ (i : ℕ). isPosition g i ≡ true) (g .positions) (place-low g) (place-told g) (t .nodes) (t .apart) (route-each u (t .nodes) h);
         text = text-same (t .nodes) ∙ route-text u (t .nodes) h;
       }
 
   -- where there is a route, a search finds one
-  route-told : {m : ℕ} {e e′ : List ℕ} {u base r : ℕ} (c : List ℕ) → u ≤ g .places → Route g u c → hasBit m (endOf u c) ≡ true
+  route-told : {m : ℕ} {e e′ : List ℕ} {u base r : ℕ} (c : List ℕ) → u ≤ g .positions → Route g u c → hasBit m (endOf u c) ≡ true
       → Shown (b .letters) (b .follow) (replicate 61 0) e e′ (stateIn m) u base r → ToldRoute e e′ m u base r
   route-told {m} {u = u} {r = r} c l h k s =
       ⊎-elim
@@ -197,7 +197,7 @@ module _ {b : Built} (fit : Vettable b) where
         let n = s .none l in
         record {
           verdict-is = sym (verdict-low ∙ if-no 1 0 (ambiguous g) (none-parts rows-of sh (onlyAt (b .lasts)) refl 0 zero-le (n .1)));
-          shows = record { first = refl; second = refl; third = refl; kept = n .0 };
+          graphOfBuilt = record { first = refl; second = refl; third = refl; kept = n .0 };
         }
 
     pub steady-answer : r < 4096 → Vets g e e′ 1 r 0 0
@@ -208,9 +208,9 @@ module _ {b : Built} (fit : Vettable b) where
         let size : length text ≡ r = length-map (t .nodes) (letterAt (b .letters)) ∙ t .size in
         record {
           verdict-is = sym (verdict-low ∙ if-yes 1 0 (ambiguous g) (some-parts rows-of sh (onlyAt (b .lasts)) refl 0 zero-le (t .nodes) (t .goes) (t .meets)));
-          shows = record {
+          graphOfBuilt = record {
             text = text;
-            shows = subst (ShowsSteady g) (sym (w .text)) (parting-steady g (w .walks));
+            graphOfBuilt = subst (ShowsSteady g) (sym (w .text)) (parting-steady g (w .walks));
             first = sym size;
             second = refl;
             third = refl;
@@ -238,7 +238,7 @@ module _ {b : Built} (fit : Vettable b) where
         let p = first-pivot g (λ z. omega (arith, at .is, at .some)) in
         (subst (λ (x : ℕ). isPosition g x ≡ true) (at .is) (p .0), subst (λ (x : ℕ). isPivot g x ≡ true) (at .is) (p .1))
 
-    low : q ≤ g .places
+    low : q ≤ g .positions
     low = position-of g q (first .0) .1
 
     -- each of the three searches finds its goal
@@ -294,11 +294,11 @@ module _ {b : Built} (fit : Vettable b) where
         let b3 = begins-more (text (tx .nodes) ++ text (ty .nodes)) (text (tz .nodes)) e e2 e3 (x + y) z (length-append (text (tx .nodes)) (text (ty .nodes)) ∙ ap₂ _+_ sx sy) sz b2 (tz .text) in
         record {
           verdict-is = sym (if-yes 2 (if ambiguous g then 1 else 0) (not (eqb (firstPivot g) 0)) (ap not (ne-eqb (firstPivot g) 0 (λ n. omega (arith, at .is, at .some)))));
-          shows = record {
+          graphOfBuilt = record {
             x = text (tx .nodes);
             y = text (ty .nodes);
             z = text (tz .nodes);
-            shows = shows-same (i .text) (w .text) (o .text) (at-pivot ways (parting-loops g q (w .walks)));
+            graphOfBuilt = shows-same (i .text) (w .text) (o .text) (at-pivot ways (parting-loops g q (w .walks)));
             first = sym sx;
             second = sym sy;
             third = sym sz;

@@ -40,7 +40,7 @@ module _ (g : Graph) where
   -- before they part both paths are at one state, after it at two positions
   abbrev pub Held : Bool → Pair → Type 0
   Held true t = Placed g t
-  Held false t = (t .left ≡ t .right) × (t .left ≤ g .places)
+  Held false t = (t .left ≡ t .right) × (t .left ≤ g .positions)
 
   pub moved-held : (n m : Node) → Moves g n m → Held (m .parted) (m .at)
   moved-held n m s = of (m .parted) (same-at g n m s)
@@ -50,8 +50,8 @@ module _ (g : Graph) where
       of false e = (e refl, position-of g (m .at .left) (s .step .placed .0) .1)
 
 module _ {g : Graph} {F S : List ℕ} (rows : Rows g F) (sh : Shares g S) where
-  pub places : (a b : ℕ) → isPosition g a ≡ true → isPosition g b ≡ true → Places a b
-  places a b h k =
+  pub positions : (a b : ℕ) → isPosition g a ≡ true → isPosition g b ≡ true → Places a b
+  positions a b h k =
       let p = position-of g a h in
       let q = position-of g b k in
       record { left-low = p .0; left-high = omega arith; right-low = q .0; right-high = omega arith }
@@ -97,7 +97,7 @@ module _ {g : Graph} {F S : List ℕ} (rows : Rows g F) (sh : Shares g S) where
         };
         is = refl;
       }
-  step-move true t y h (single {a} l k) = absurd (let big = sides (t .left) (t .right) (places (t .left) (t .right) (h .0) (h .1)) .high in omega arith)
+  step-move true t y h (single {a} l k) = absurd (let big = sides (t .left) (t .right) (positions (t .left) (t .right) (h .0) (h .1)) .high in omega arith)
   step-move true t y h (beside {a} {b} p) =
       let x = pack (t .left) (t .right) in
       ⊎-elim
@@ -115,7 +115,7 @@ module _ {g : Graph} {F S : List ℕ} (rows : Rows g F) (sh : Shares g S) where
         moves = record { step = besides t b a (rightOf x) (leftOf x) (e .1) (e .0) (p .right) (p .left) s; flag = refl };
         is = pack-swap b a;
       })
-      (sides (t .left) (t .right) (places (t .left) (t .right) (h .0) (h .1)) .sides)
+      (sides (t .left) (t .right) (positions (t .left) (t .right) (h .0) (h .1)) .sides)
 
   -- ---- a move is a step
 
@@ -138,7 +138,7 @@ module _ {g : Graph} {F S : List ℕ} (rows : Rows g F) (sh : Shares g S) where
   move-step true false t r h k s = absurd (true≢false (sym (s .flag)))
   move-step true true t r h k s =
       let x = pack (t .left) (t .right) in
-      let d = sides (t .left) (t .right) (places (t .left) (t .right) (h .0) (h .1)) in
+      let d = sides (t .left) (t .right) (positions (t .left) (t .right) (h .0) (h .1)) in
       let apart : (v : Bool) → (leb 64 x || v) ≡ true = λ v. ap (λ (y : Bool). y || v) (le-leb 64 x (d .high)) in
       ⊎-elim (λ e. parts x t r (e .0) (e .1) (s .step) (apart (not (eqb (r .left) (r .right)))))
       (λ e. subst (Step F S x) (pack-swap (r .right) (r .left)) (parts x (pair (t .right) (t .left)) (pair (r .right) (r .left)) (e .0) (e .1) (turn t r (s .step)) (apart (not (eqb (r .right) (r .left))))))

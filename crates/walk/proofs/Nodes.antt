@@ -111,15 +111,15 @@ goes-parts F u i h =
     (p .0, leb-true 1 i (q .0), omega arith)
 
 module _ (F S : List ℕ) (x : ℕ) where
-  pub parts-places : (a b : ℕ) → Parts F S x a b → Places a b
-  parts-places a b p =
+  pub parts-positions : (a b : ℕ) → Parts F S x a b → Places a b
+  parts-positions a b p =
       let l = goes-parts F (leftOf x) a (p .left) in
       let r = goes-parts F (rightOf x) b (p .right) in
       record { left-low = l .1; left-high = l .2; right-low = r .1; right-high = r .2 }
 
   pub step-node : (y : ℕ) → Step F S x y → IsNode y
   step-node y (single {a} l h) = one {a = a} (goes-parts F x a h .2)
-  step-node y (beside {a} {b} p) = pack-node a b (parts-places a b p)
+  step-node y (beside {a} {b} p) = pack-node a b (parts-positions a b p)
 
 -- ---- taken up
 
@@ -145,11 +145,11 @@ module _ (alone : ℕ) (seen : List ℕ) (even : Even seen) where
     -- what is found is one step on and not taken up
     pub fresh : (y : ℕ) → Fresh F S alone seen x y → Step F S x y × (taken alone seen y ≡ false)
     fresh y (new-single {a} l h n) = let p = goes-parts F x a h .2 in (single l h, taken-low alone seen a (omega arith) ∙ n)
-    fresh y (new-beside {a} {b} p n) = (beside p, taken-pair a b (parts-places F S x a b p) ∙ n)
+    fresh y (new-beside {a} {b} p n) = (beside p, taken-pair a b (parts-positions F S x a b p) ∙ n)
 
     step-fresh : (y : ℕ) → Step F S x y → taken alone seen y ≡ false → Fresh F S alone seen x y
     step-fresh y (single {a} k h) t = let p = goes-parts F x a h .2 in new-single k h (sym (taken-low alone seen a (omega arith)) ∙ t)
-    step-fresh y (beside {a} {b} p) t = new-beside p (sym (taken-pair a b (parts-places F S x a b p)) ∙ t)
+    step-fresh y (beside {a} {b} p) t = new-beside p (sym (taken-pair a b (parts-positions F S x a b p)) ∙ t)
 
     -- where nothing is found, each node one step on is taken up
     pub spent : (r y : ℕ) → Finds F S alone seen x r → 4096 ≤ r → IsNode x → Step F S x y → taken alone seen y ≡ true
@@ -157,7 +157,7 @@ module _ (alone : ℕ) (seen : List ℕ) (even : Even seen) where
 
 pub fresh-node : (F S : List ℕ) (alone : ℕ) (seen : List ℕ) (x y : ℕ) → Fresh F S alone seen x y → IsNode y
 fresh-node F S alone seen x y (new-single {a} l h n) = one {a = a} (goes-parts F x a h .2)
-fresh-node F S alone seen x y (new-beside {a} {b} p n) = pack-node a b (parts-places F S x a b p)
+fresh-node F S alone seen x y (new-beside {a} {b} p n) = pack-node a b (parts-positions F S x a b p)
 
 -- ---- a free pair, by the word of partners
 
@@ -239,8 +239,8 @@ find-parted {F} {x = x} {from} {to} high left right d =
     find-pair (subst (λ (u : ℕ). RowOf F u from) (sym (left-high x high)) left) (subst (λ (u : ℕ). RowOf F u to) (sym (right-high x high)) right) (sym (le-leb 64 x high)) (λ a l. absurd (omega arith)) d
 
 -- the members of a row are positions
-pub row-places : {F : List ℕ} {u m : ℕ} → RowOf F u m → (i : ℕ) → hasBit m i ≡ true → i ≤ 60
-row-places {F} {u} row i h = goes-parts F u i (sym (row .bits i) ∙ h) .2
+pub row-positions : {F : List ℕ} {u m : ℕ} → RowOf F u m → (i : ℕ) → hasBit m i ≡ true → i ≤ 60
+row-positions {F} {u} row i h = goes-parts F u i (sym (row .bits i) ∙ h) .2
 
 -- ---- a number of its own for each node
 

@@ -32,7 +32,7 @@ use Rattle.walk.specs.Nodes.{pack, leftOf, rightOf, goes, Step, single, 
 use Rattle.walk.specs.Walks.{queue, isGoal, Walked, Searched}
 use Rattle.walk.proofs.Nodes.{sides, left-low, right-low, left-high, right-high}
 use Rattle.walk.proofs.Walking.{complete, way-back}
-use Rattle.walk.proofs.Linking.{letter-swap, codeOf, code, Held, moved-held, places, lift-chain, drop-chain}
+use Rattle.walk.proofs.Linking.{letter-swap, codeOf, code, Held, moved-held, positions, lift-chain, drop-chain}
 
 -- ---- goals
 
@@ -80,11 +80,11 @@ module _ {g : Graph} {F S : List ℕ} (rows : Rows g F) (sh : Shares g S) where
   goal-code goal p true t h =
       let x = pack (t .left) (t .right) in
       let m = goal .mask in
-      let d = sides (t .left) (t .right) (places rows sh (t .left) (t .right) (h .0) (h .1)) in
+      let d = sides (t .left) (t .right) (positions rows sh (t .left) (t .right) (h .0) (h .1)) in
       goal-high goal x (d .high)
       ∙ ⊎-elim (λ e. ap₂ (bothIn m) (e .0) (e .1)) (λ e. ap₂ (bothIn m) (e .0) (e .1) ∙ and-comm (hasBit m (t .right)) (hasBit m (t .left))) (d .sides)
 
-  held-end : (u : ℕ) (c : List Node) → u ≤ g .places → Chain (Moves g) (start u) c → Held g (endOf (start u) c .parted) (endOf (start u) c .at)
+  held-end : (u : ℕ) (c : List Node) → u ≤ g .positions → Chain (Moves g) (start u) c → Held g (endOf (start u) c .parted) (endOf (start u) c .at)
   held-end u c l h = chain-end (Moves g) (λ n. Held g (n .parted) (n .at)) (λ n m s k. moved-held g n m s) (start u) c h (refl, l)
 
   -- a chain of nodes to a goal is a chain of moves to a parted pair that passes
@@ -96,7 +96,7 @@ module _ {g : Graph} {F S : List ℕ} (rows : Rows g F) (sh : Shares g S) where
     pub ends : endOf (start u) nodes ≡ node to true
     pub passes : bothIn (goal .mask) (to .left) (to .right) ≡ true
 
-  pub parted : (goal : Goal) → goal .parted ≡ true → (u : ℕ) → u ≤ g .places → (ys : List ℕ) → Chain (Step F S) u ys → isGoal goal (endOf u ys) ≡ true → Parted goal u ys
+  pub parted : (goal : Goal) → goal .parted ≡ true → (u : ℕ) → u ≤ g .positions → (ys : List ℕ) → Chain (Step F S) u ys → isGoal goal (endOf u ys) ≡ true → Parted goal u ys
   parted goal p u l ys h k =
       let c = lift-chain rows sh (start u) ys (refl, l) h in
       let z = endOf (start u) (c .nodes) in
@@ -106,12 +106,12 @@ module _ {g : Graph} {F S : List ℕ} (rows : Rows g F) (sh : Shares g S) where
       record { nodes = c .nodes; goes = c .goes; are = c .are; to = z .at; ends = λ i. record { at = z .at; parted = both .0 i }; passes = both .1 }
 
   -- what such chains say of `partsTo`
-  pub some-parts : (goal : Goal) → goal .parted ≡ true → (u : ℕ) → u ≤ g .places → (ys : List ℕ) → Chain (Step F S) u ys → isGoal goal (endOf u ys) ≡ true → partsTo g u (bothIn (goal .mask)) ≡ true
+  pub some-parts : (goal : Goal) → goal .parted ≡ true → (u : ℕ) → u ≤ g .positions → (ys : List ℕ) → Chain (Step F S) u ys → isGoal goal (endOf u ys) ≡ true → partsTo g u (bothIn (goal .mask)) ≡ true
   some-parts goal p u l ys h k =
       let m = parted goal p u l ys h k in
       goal-parts g u (bothIn (goal .mask)) (record { to = m .to; passes = m .passes; way = record { nodes = m .nodes; goes = m .goes; ends = m .ends } })
 
-  pub none-parts : (goal : Goal) → goal .parted ≡ true → (u : ℕ) → u ≤ g .places → ((ys : List ℕ) → Chain (Step F S) u ys → isGoal goal (endOf u ys) ≡ false) → partsTo g u (bothIn (goal .mask)) ≡ false
+  pub none-parts : (goal : Goal) → goal .parted ≡ true → (u : ℕ) → u ≤ g .positions → ((ys : List ℕ) → Chain (Step F S) u ys → isGoal goal (endOf u ys) ≡ false) → partsTo g u (bothIn (goal .mask)) ≡ false
   none-parts goal p u l none =
       by-test (partsTo g u (bothIn (goal .mask)))
       (λ h.
@@ -122,7 +122,7 @@ module _ {g : Graph} {F S : List ℕ} (rows : Rows g F) (sh : Shares g S) where
       absurd (true≢false (sym (goal-code goal p true (k .to) held ∙ k .passes) ∙ ap (isGoal goal) (sym end) ∙ none (map code c) (drop-chain rows sh (start u) c (refl, l) (k .way .goes)))))
       (λ h. h)
 
-  pub found-parts : {s : List ℕ} {goal : Goal} {u : ℕ} {w : Walk} → Searched F S s goal u w → goal .parted ≡ true → u ≤ g .places → partsTo g u (bothIn (goal .mask)) ≡ w .found
+  pub found-parts : {s : List ℕ} {goal : Goal} {u : ℕ} {w : Walk} → Searched F S s goal u w → goal .parted ≡ true → u ≤ g .positions → partsTo g u (bothIn (goal .mask)) ≡ w .found
   found-parts {goal = goal} {u = u} {w = w} over p l =
       by-test (w .found)
       (λ t. let v = found-way over t in some-parts goal p u l (v .nodes) (v .goes) (ap (isGoal goal) (v .ends) ∙ over .hunted .some t) ∙ sym t)
@@ -136,7 +136,7 @@ module _ {g : Graph} {F S : List ℕ} (rows : Rows g F) (sh : Shares g S) where
       ap₂ (letterShown g) (left-low (t .left) low) (right-low (t .left) low ∙ h .0)
   letter-code true t h =
       ⊎-elim (λ e. ap₂ (letterShown g) (e .0) (e .1)) (λ e. ap₂ (letterShown g) (e .0) (e .1) ∙ letter-swap g (t .right) (t .left))
-      (sides (t .left) (t .right) (places rows sh (t .left) (t .right) (h .0) (h .1)) .sides)
+      (sides (t .left) (t .right) (positions rows sh (t .left) (t .right) (h .0) (h .1)) .sides)
 
   pub shown-codes : (n : Node) (c : List Node) → Chain (Moves g) n c → map (letterOf g) (map code c) ≡ shown g (lefts (pairs c)) (rights (pairs c))
   shown-codes n [] h = refl

@@ -10,7 +10,7 @@ use Rattle.verdict.specs.Pairs.{shares}
 use Rattle.walk.specs.Nodes.{goes}
 
 pub record Rows (g : Graph) (F : List ℕ) : Type 0 where
-  pub few : g .places ≤ 60
+  pub few : g .positions ≤ 60
   pub next : (u i : ℕ) → goes F u i ≡ true → (isPosition g i ≡ true) × (g .next u i ≡ true)
   pub goes-on : (u i : ℕ) → isPosition g i ≡ true → g .next u i ≡ true → goes F u i ≡ true
 

@@ -14,7 +14,7 @@ ghost use Rattle.bits.specs.Bits.{hasBit};
 ghost use Rattle.letters.specs.Alphabet.{someLetter, isLetter};
 ghost use Rattle.letters.specs.LetterSet.{hasLetter};
 ghost use Rattle.graph.specs.Graph.{Graph};
-ghost use Rattle.graph.specs.Built.{shows};
+ghost use Rattle.graph.specs.Built.{graphOfBuilt};
 ghost use Rattle.verdict.specs.Verdict.{firstPivot};
 ghost use Rattle.walk.specs.Nodes.{IsNode, pack, leftOf, rightOf, RowOf, Step, PartnersOf, FindsPair, Finds};
 ghost use Rattle.walk.specs.Walks.{takeUp, Marked, isGoal, Tried, Hunted, Searched};
@@ -63,7 +63,7 @@ fn row(follow: &[u64; 61], u: usize) -> u64
     requires { ⌜ u ≤ 60 ⌝ }
     ensures { λ r. ⌜ RowOf (now (follow .entry)) u r ⌝ }
 {
-    bits::both(follow[u], bits::span(1, 61))
+    bits::intersection(follow[u], bits::span(1, 61))
 }
 
 // The members of a set but i, or all where `all` says so.
@@ -74,7 +74,7 @@ fn others(set: u64, i: usize, all: bool) -> u64
     if all {
         return set;
     }
-    bits::minus(set, bits::only(i))
+    bits::difference(set, bits::only(i))
 }
 
 // Of the set `to`, the positions that share a letter with a and are not seen beside it.
@@ -82,7 +82,7 @@ fn partners(to: u64, shared: u64, seen: u64, a: usize, parted: bool) -> u64
     requires { ⌜ a < 64 ⌝ }
     ensures { λ r. ⌜ PartnersOf to shared seen a parted r ⌝ }
 {
-    others(bits::minus(bits::both(to, shared), seen), a, parted)
+    others(bits::difference(bits::intersection(to, shared), seen), a, parted)
 }
 
 // A pair that is not taken up, of a position of `from` and one of `to`.
@@ -120,7 +120,7 @@ fn next_new<'a>(
 {
     if x <= 60 {
         let next = row(follow, x);
-        let new = bits::minus(next, alone);
+        let new = bits::difference(next, alone);
         if new != 0 {
             return bits::lowest(new);
         }
@@ -258,14 +258,14 @@ fn first_pivot<'a>(
     follow: &'a [u64; 61],
     shares: &'a [u64; 61],
     scratch: &mut [u16],
-    places: usize,
+    positions: usize,
 ) -> usize
-    requires { ⌜ (4096 ≤ length (now scratch)) × (places ≤ 60) ⌝ }
-    ensures { λ r. ⌜ ((g : Graph) → Rows g (now (follow .entry)) → Shares g (now (shares .entry)) → g .places ≡ places → firstPivot g ≡ r) ⌝ }
+    requires { ⌜ (4096 ≤ length (now scratch)) × (positions ≤ 60) ⌝ }
+    ensures { λ r. ⌜ ((g : Graph) → Rows g (now (follow .entry)) → Shares g (now (shares .entry)) → g .positions ≡ positions → firstPivot g ≡ r) ⌝ }
 {
     let mut q: usize = 1;
     let mut at: usize = 0;
-    'pivots: while q <= places {
+    'pivots: while q <= positions {
         let goal = Goal {
             mask: bits::only(q),
             parted: true,
@@ -312,7 +312,7 @@ fn letter(sets: [LetterSet; 61], x: usize) -> u8
     let b = right(x);
     let s = sets[a];
     let t = sets[b];
-    letters::lowest(letters::both(s, t))
+    letters::lowest(letters::intersection(s, t))
 }
 
 // How many steps lead to the i-th node of the queue.
@@ -379,7 +379,7 @@ fn share(s: LetterSet, t: LetterSet) -> bool
     requires { ⌜ ((c : ℕ) → hasLetter s c ≡ true → isLetter c ≡ true) ⌝ }
     ensures { λ r. ⌜ r ≡ someLetter (λ c. hasLetter s c && hasLetter t c) ⌝ }
 {
-    !letters::is_none(letters::both(s, t))
+    !letters::is_empty(letters::intersection(s, t))
 }
 
 // The members of a set, and i where `yes` says so.
@@ -393,18 +393,18 @@ fn with_if(mask: u64, i: usize, yes: bool) -> u64
     mask
 }
 
-// The numbers up to `places` whose sets share a letter with that of a, for every such a, in rows. The sets are read here and not
+// The numbers up to `positions` whose sets share a letter with that of a, for every such a, in rows. The sets are read here and not
 // in a function of one row, which would copy them all.
-fn fill(sets: [LetterSet; 61], rows: &mut [u64; 61], places: usize)
-    requires { ⌜ Lettered sets × (length (now rows) ≡ 61) × (places ≤ 60) ⌝ }
-    ensures { λ _. ⌜ ((a b : ℕ) → a ≤ places → b ≤ places → hasBit (getD (now (rows .exit)) a 0) b ≡ someLetter (held sets a b)) × (length (now (rows .exit)) ≡ 61) ⌝ }
+fn fill(sets: [LetterSet; 61], rows: &mut [u64; 61], positions: usize)
+    requires { ⌜ Lettered sets × (length (now rows) ≡ 61) × (positions ≤ 60) ⌝ }
+    ensures { λ _. ⌜ ((a b : ℕ) → a ≤ positions → b ≤ positions → hasBit (getD (now (rows .exit)) a 0) b ≡ someLetter (held sets a b)) × (length (now (rows .exit)) ≡ 61) ⌝ }
 {
     let mut a: usize = 0;
-    while a <= places {
+    while a <= positions {
         let s = sets[a];
         let mut word: u64 = 0;
         let mut b: usize = 0;
-        while b <= places {
+        while b <= positions {
             let t = sets[b];
             word = with_if(word, b, share(s, t));
             b += 1;
@@ -420,21 +420,21 @@ fn fill(sets: [LetterSet; 61], rows: &mut [u64; 61], places: usize)
 pub struct Vetted {
     pub refusal: u8,
     pub verdict: u8,
-    pub places: u8,
+    pub positions: u8,
     pub first: u32,
     pub second: u32,
     pub third: u32,
 }
 
 // A verdict with the lengths of its texts.
-fn judgement(places: usize, verdict: u8, first: usize, second: usize, third: usize) -> Vetted
-    requires { ⌜ (places ≤ 60) × (first ≤ 4096) × (second ≤ 4096) × (third ≤ 4096) ⌝ }
-    ensures { λ r. ⌜ r ≡ vetted places verdict first second third ⌝ }
+fn judgement(positions: usize, verdict: u8, first: usize, second: usize, third: usize) -> Vetted
+    requires { ⌜ (positions ≤ 60) × (first ≤ 4096) × (second ≤ 4096) × (third ≤ 4096) ⌝ }
+    ensures { λ r. ⌜ r ≡ vetted positions verdict first second third ⌝ }
 {
     Vetted {
         refusal: 0,
         verdict: verdict,
-        places: places as u8,
+        positions: positions as u8,
         first: first as u32,
         second: second as u32,
         third: third as u32,
@@ -443,8 +443,8 @@ fn judgement(places: usize, verdict: u8, first: usize, second: usize, third: usi
 
 // Of a pattern without a pivot: steady where two readings part and both come to an end, else single.
 fn unless_runaway(b: Built, shares: &[u64; 61], evidence: &mut [u8], scratch: &mut [u16]) -> Vetted
-    requires { ⌜ Vettable b × Shares (shows b) (now shares) × (firstPivot (shows b) ≡ 0) × (4096 ≤ length (now evidence)) × (4096 ≤ length (now scratch)) ⌝ }
-    ensures { λ r. ⌜ Judged (shows b) (now (evidence .entry)) (now (evidence .exit)) r ⌝ }
+    requires { ⌜ Vettable b × Shares (graphOfBuilt b) (now shares) × (firstPivot (graphOfBuilt b) ≡ 0) × (4096 ≤ length (now evidence)) × (4096 ≤ length (now scratch)) ⌝ }
+    ensures { λ r. ⌜ Judged (graphOfBuilt b) (now (evidence .entry)) (now (evidence .exit)) r ⌝ }
 {
     let follow = b.follow;
     let sets = b.letters;
@@ -463,9 +463,9 @@ fn unless_runaway(b: Built, shares: &[u64; 61], evidence: &mut [u8], scratch: &m
         0,
     );
     if n == NONE {
-        return judgement(b.places, 0, 0, 0, 0);
+        return judgement(b.positions, 0, 0, 0, 0);
     }
-    judgement(b.places, 1, n, 0, 0)
+    judgement(b.positions, 1, n, 0, 0)
 }
 
 // Of a pattern whose first pivot is q.
@@ -476,8 +476,8 @@ fn runaway(
     scratch: &mut [u16],
     q: usize,
 ) -> Vetted
-    requires { ⌜ Vettable b × Shares (shows b) (now shares) × (firstPivot (shows b) ≡ q) × (0 < q) × (4096 ≤ length (now evidence)) × (4096 ≤ length (now scratch)) ⌝ }
-    ensures { λ r. ⌜ Judged (shows b) (now (evidence .entry)) (now (evidence .exit)) r ⌝ }
+    requires { ⌜ Vettable b × Shares (graphOfBuilt b) (now shares) × (firstPivot (graphOfBuilt b) ≡ q) × (0 < q) × (4096 ≤ length (now evidence)) × (4096 ≤ length (now scratch)) ⌝ }
+    ensures { λ r. ⌜ Judged (graphOfBuilt b) (now (evidence .entry)) (now (evidence .exit)) r ⌝ }
 {
     let follow = b.follow;
     let sets = b.letters;
@@ -525,19 +525,19 @@ fn runaway(
         q,
         x + y,
     );
-    judgement(b.places, 2, x, y, z)
+    judgement(b.positions, 2, x, y, z)
 }
 
 // The verdict of a pattern, with its evidence. 4,096 bytes and 4,096 numbers are enough, whatever they hold.
 pub fn vet(b: Built, evidence: &mut [u8], scratch: &mut [u16]) -> Vetted
     requires { ⌜ Vettable b × (4096 ≤ length (now evidence)) × (4096 ≤ length (now scratch)) ⌝ }
-    ensures { λ r. ⌜ Judged (shows b) (now (evidence .entry)) (now (evidence .exit)) r ⌝ }
+    ensures { λ r. ⌜ Judged (graphOfBuilt b) (now (evidence .entry)) (now (evidence .exit)) r ⌝ }
 {
     let follow = b.follow;
     let sets = b.letters;
     let mut shares = [0u64; 61];
-    fill(sets, &mut shares, b.places);
-    let q = first_pivot(&follow, &shares, &mut *scratch, b.places);
+    fill(sets, &mut shares, b.positions);
+    let q = first_pivot(&follow, &shares, &mut *scratch, b.positions);
     if q == 0 {
         return unless_runaway(b, &shares, &mut *evidence, &mut *scratch);
     }

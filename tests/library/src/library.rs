@@ -10,7 +10,7 @@ extern "C" {
 #[derive(Clone, Debug, PartialEq, Eq)]
 pub enum Vetted {
     Refused(u8),
-    Verdict { verdict: u8, places: usize, texts: Vec<Vec<u8>> },
+    Verdict { verdict: u8, positions: usize, texts: Vec<Vec<u8>> },
 }
 
 #[derive(Clone, Copy, Debug, PartialEq, Eq)]
@@ -79,7 +79,7 @@ fn watched(evidence_len: usize, seed: u8, call: impl FnOnce(*mut u8) -> u64) -> 
         texts.push(memory[at..at + l].to_vec());
         at += l;
     }
-    Ok(Vetted::Verdict { verdict: field(8, 8) as u8, places: field(16, 8) as usize, texts })
+    Ok(Vetted::Verdict { verdict: field(8, 8) as u8, positions: field(16, 8) as usize, texts })
 }
 
 pub fn mark(pattern: &[u8], answer: &[u8]) -> Result<Marked, String> {

@@ -65,11 +65,11 @@ fn marks(t: &mut Tally, pattern: &[u8], answer: &[u8], count: u64, best: u32) {
 /// What a verdict shows, checked by counting readings in the model.
 fn evidence(t: &mut Tally, pattern: &[u8], p: &model::Pattern, verdict: u8) {
     let n = p.positions.len();
-    let Ok(Vetted::Verdict { verdict: got, places, texts }) = vet(pattern, EVIDENCE, pattern.len() as u8) else {
+    let Ok(Vetted::Verdict { verdict: got, positions, texts }) = vet(pattern, EVIDENCE, pattern.len() as u8) else {
         t.check(false, || format!("vet {}: no verdict", show(pattern)));
         return;
     };
-    t.check(got == verdict && places == n, || format!("vet {}: verdict {got} and {places}, want {verdict} and {n}", show(pattern)));
+    t.check(got == verdict && positions == n, || format!("vet {}: verdict {got} and {positions}, want {verdict} and {n}", show(pattern)));
     let most = (n * n + n).min(4096);
     let [x, y, z] = &texts[..] else { unreachable!() };
     t.check(texts.concat().iter().all(|b| model::is_letter(*b)), || format!("vet {}: evidence is no text", show(pattern)));

@@ -242,8 +242,8 @@ impl Row<'_> {
     fn pattern(&self, t: &mut Tally, pattern: &[u8]) {
         self.is_number(t, "refusal", refusal(pattern));
         self.is_word(t, "verdict", verdict(pattern));
-        let Ok(Vetted::Verdict { places, texts, .. }) = vet(pattern, EVIDENCE, 1) else { return };
-        self.is_number(t, "positions", places as u64);
+        let Ok(Vetted::Verdict { positions, texts, .. }) = vet(pattern, EVIDENCE, 1) else { return };
+        self.is_number(t, "positions", positions as u64);
         for (column, shown) in [("text", &texts[0]), ("x", &texts[0]), ("y", &texts[1]), ("z", &texts[2])] {
             if let Some(want) = self.text(t, column) {
                 t.same(show(shown), show(&want), &format!("{}: {column}", self.name));

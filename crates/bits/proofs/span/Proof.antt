@@ -13,15 +13,15 @@ below-requires c κs = search needs
 below-requires-2 : tie.Need-below-requires-2
 below-requires-2 c κs = search needs
 
-minus-requires : tie.Need-minus-requires
-minus-requires c κs = search needs
+difference-requires : tie.Need-difference-requires
+difference-requires c κs = search needs
 
 returns : tie.Need-returns
 returns c j =
     let from = c .before .before .before .args .from in
     let to = c .before .before .before .args .to in
-    c .minus .ensures j ∙ ap₂ (λ (x y : Bool). x && not y) (c .before .before .below .ensures j) (c .before .below2 .ensures j)
+    c .difference .ensures j ∙ ap₂ (λ (x y : Bool). x && not y) (c .before .before .below .ensures j) (c .before .below2 .ensures j)
     ∙ ap (λ (b : Bool). ltb j to && b) (not-less j from) ∙ and-comm (ltb j to) (leb from j)
 
 pub span-spec : {M : Type 1} → statement M
-span-spec = tie.close (tie.spec below-requires below-requires-2 minus-requires returns)
+span-spec = tie.close (tie.spec below-requires below-requires-2 difference-requires returns)

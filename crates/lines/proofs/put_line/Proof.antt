@@ -22,7 +22,7 @@ by-refusal : (v : tie.After-vet-pattern) → (v .vet-pattern .result .refusal �
 by-refusal v d = let start = v .before .before .before .before .before .before .before in line-refused (start .args .pattern .now) (start .args .evidence .now) (v .vet-pattern .last .1 .0) (start .args .scratch .now) (v .vet-pattern .last .1 .1 .0) (v .vet-pattern .result) (v .vet-pattern .ensures) (start .pre .1) (start .pre .2) (number v) d
 
 by-verdict : (v : tie.After-vet-pattern) → v .vet-pattern .result .refusal ≡ 0 → (k : ℕ) → v .vet-pattern .result .verdict ≡ k
-    → fields (number v) (word k) (v .vet-pattern .result .places) ≡ line v
+    → fields (number v) (word k) (v .vet-pattern .result .positions) ≡ line v
 by-verdict v z k e = let start = v .before .before .before .before .before .before .before in line-verdict (start .args .pattern .now) (start .args .evidence .now) (v .vet-pattern .last .1 .0) (start .args .scratch .now) (v .vet-pattern .last .1 .1 .0) (v .vet-pattern .result) (v .vet-pattern .ensures) (start .pre .1) (start .pre .2) (number v) z k e
 
 -- ---- the needs
@@ -103,7 +103,7 @@ returns-4 : tie.Need-returns-4
 returns-4 c =
     let v = c .before .before .before .before .before .before .before .before .before .before .before .before .before .before .before .vet-pattern .result in
     let w = word-other (v .verdict) (c .before .before .before .before .before .before .before .if2 .left) (c .before .before .before .before .before .if3 .left) in
-    (line-put (c .before .before .put-fields4 .ensures .0) (ap (λ (t : List ℕ). fields (c .before .before .before .before .before .before .before .before .before .before .before .before .before .before .before .before .before .before .before .before .before .before .args .number) t (v .places)) (sym w) ∙ by-verdict (c .before .before .before .before .before .before .before .before .before .before .before .before .before .before .before) (c .before .before .before .before .before .before .before .before .before .if1 .left) (v .verdict) refl), c .before .before .put-fields4 .ensures .1)
+    (line-put (c .before .before .put-fields4 .ensures .0) (ap (λ (t : List ℕ). fields (c .before .before .before .before .before .before .before .before .before .before .before .before .before .before .before .before .before .before .before .before .before .before .args .number) t (v .positions)) (sym w) ∙ by-verdict (c .before .before .before .before .before .before .before .before .before .before .before .before .before .before .before) (c .before .before .before .before .before .before .before .before .before .if1 .left) (v .verdict) refl), c .before .before .put-fields4 .ensures .1)
 
 pub put-line-spec : {M : Type 1} → statement M
 put-line-spec =

@@ -4,7 +4,7 @@ use mathlib.Core.Path.{_≡_, sym, _∙_}
 use native.Mathlib.Omega.{arith}
 use lib.ListN.{length}
 use borrow.Author.Needs.{needs}
-use Rattle.graph.specs.Built.{shows}
+use Rattle.graph.specs.Built.{graphOfBuilt}
 use Rattle.marking.proofs.Vetting.{little-evidence, little-scratch, by-pattern, says-refusal, says-verdict, trim-built, answers}
 use Rattle.marking.proofs.vet_pattern.Statement.{statement}
 use Rattle.marking.proofs.vet_pattern.Tie as tie
@@ -62,7 +62,7 @@ returns-4 c =
     let l : length (v .last .1 .1 .0) ≡ length (a .scratch .now) = search needs in
     says-verdict (a .pattern .now) (a .evidence .now) (v .last .1 .0) (a .scratch .now) (v .last .1 .1 .0) (v .result)
     (by-pattern (a .pattern .now) (length (a .evidence .now)) (length (a .scratch .now)) (c .before .before .before .before .before .before .before .before .before .before .before .before .if1 .left) (c .before .before .before .before .before .before .before .before .before .before .before .if2 .left) ∙ f)
-    (answers (a .pattern .now) (a .evidence .now) (v .last .1 .0) (a .scratch .now) (v .last .1 .1 .0) (shows (p .result .built)) (v .result) (p .ensures .graph) f (v .ensures) l)
+    (answers (a .pattern .now) (a .evidence .now) (v .last .1 .0) (a .scratch .now) (v .last .1 .1 .0) (graphOfBuilt (p .result .built)) (v .result) (p .ensures .graph) f (v .ensures) l)
 
 pub vet-pattern-spec : {M : Type 1} → statement M
 vet-pattern-spec =

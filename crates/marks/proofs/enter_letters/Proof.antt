@@ -15,11 +15,11 @@ abbrev μ-loop : tie.MeasureT-loop
 loop-holds : tie.Need-loop-holds Inv-loop μ-loop
 loop-holds c = enter-start (hasLetter (c .before .args .members)) (c .before .args .j) (c .before .args .table .now)
 
-is-none-requires : tie.Need-is-none-requires Inv-loop μ-loop
-is-none-requires c κs = tt
+is-empty-requires : tie.Need-is-empty-requires Inv-loop μ-loop
+is-empty-requires c κs = tt
 
 lowest-requires : tie.Need-lowest-requires Inv-loop μ-loop
-lowest-requires c κs = c .before .is-none .ensures .1 (not-true (c .before .is-none .result) (c .if1 .taken))
+lowest-requires c κs = c .before .is-empty .ensures .1 (not-true (c .before .is-empty .result) (c .if1 .taken))
 
 cast-x : tie.Need-cast-x Inv-loop μ-loop
 cast-x c = omega arith
@@ -40,7 +40,7 @@ slice-write-table : tie.Need-slice-write-table Inv-loop μ-loop
 slice-write-table c = omega (arith, c .before .before .before .before .before .loop .inv .size)
 
 rest-requires : tie.Need-rest-requires Inv-loop μ-loop
-rest-requires c κs = c .before .before .before .before .is-none .ensures .1 (not-true (c .before .before .before .before .is-none .result) (c .before .before .before .if1 .taken))
+rest-requires c κs = c .before .before .before .before .is-empty .ensures .1 (not-true (c .before .before .before .before .is-empty .result) (c .before .before .before .if1 .taken))
 
 loop-less : tie.Need-loop-less Inv-loop μ-loop
 loop-less c = c .rest .ensures .0
@@ -61,7 +61,7 @@ returns : tie.Need-returns Inv-loop μ-loop
 returns c =
     let at = c .before .before .loop in
     let a = c .before .before .before .before .args in
-    enter-end (hasLetter (a .members)) (hasLetter (at .left)) (a .j) (a .table .now) (at .table) (at .inv) (c .before .is-none .ensures .0 (not-false (c .before .is-none .result) (c .if1 .left)))
+    enter-end (hasLetter (a .members)) (hasLetter (at .left)) (a .j) (a .table .now) (at .table) (at .inv) (c .before .is-empty .ensures .0 (not-false (c .before .is-empty .result) (c .if1 .left)))
 
 pub enter-letters-spec : {M : Type 1} → statement M
 enter-letters-spec =
@@ -70,7 +70,7 @@ enter-letters-spec =
     Inv-loop
     μ-loop
     loop-holds
-    is-none-requires
+    is-empty-requires
     lowest-requires
     cast-x
     mul-with

@@ -2,8 +2,7 @@
 use mathlib.Core.Path.{_≡_}
 use Prim.Native.Nat.{_+_, _<_, _≤_, _^_, min, max}
 use native.Mathlib.Omega.{arith}
-use Rattle.basics.specs.Folds.{sumIf, larger}
-use Rattle.basics.proofs.Folds.{larger-max}
+use Rattle.basics.specs.Folds.{sumIf}
 use Rattle.bits.specs.Bits.{hasBit}
 use Rattle.bits.proofs.Laws.{member-below}
 use Rattle.bits.proofs.Walk.{sum-turn, most-turn, walk-end}
@@ -69,7 +68,7 @@ loop-again c =
     let less = c .rest .ensures .1 t l in
     let v = cell (a .counts .now) (a .from) in
     let w = cell (a .best .now) (a .from) in
-    omega (arith, sum-turn 61 (at .left) t r (at .inv .0) l less v, most-turn 61 (at .left) t r (at .inv .0) l less w, larger-max (w t) (mostOf r w), c .before .before .before .plus .ensures, c .before .greater .ensures)
+    omega (arith, sum-turn 61 (at .left) t r (at .inv .0) l less v, most-turn 61 (at .left) t r (at .inv .0) l less w, c .before .before .before .plus .ensures, c .before .greater .ensures)
 
 returns : tie.Need-returns Inv-loop μ-loop
 returns c =
@@ -77,7 +76,7 @@ returns c =
     let at = c .before .loop in
     let v = cell (a .counts .now) (a .from) in
     let w = cell (a .best .now) (a .from) in
-    omega (arith, walk-end 0 _+_ v 61 (at .left) (c .loop-test .left), walk-end 0 larger w 61 (at .left) (c .loop-test .left))
+    omega (arith, walk-end 0 _+_ v 61 (at .left) (c .loop-test .left), walk-end 0 max w 61 (at .left) (c .loop-test .left))
 
 pub gather-spec : {M : Type 1} → statement M
 gather-spec =

@@ -42,7 +42,7 @@ returns c =
     let holders = c .before .before .before .before .before .before .before .before .before .holders-of in
     let before = c .before .before .before .before .before .before .before .before .before .before .before .states-before in
     let same = tables-show b (s .pre .0) (holders .result) (holders .ensures) (before .result) (before .ensures) in
-    (refl, subst (λ (g : Graph). Answered g (s .args .answer .now) (r .result .count) (r .result .most)) same (r .ensures (b .places) (subst Bounded (sym same) (s .pre .0))))
+    (refl, subst (λ (g : Graph). Answered g (s .args .answer .now) (r .result .count) (r .result .most)) same (r .ensures (b .positions) (subst Bounded (sym same) (s .pre .0))))
 
 pub mark-spec : {M : Type 1} → statement M
 mark-spec =

@@ -25,7 +25,7 @@ record Running (counts₀ best₀ answer holders before : List ℕ) (lasts : ℕ
   pub turn : (from ≡ 0) ⊎ (from ≡ 61)
   pub sizeC : length counts ≡ length counts₀
   pub sizeB : length best ≡ length best₀
-  pub row : (places : ℕ) → Bounded (tables places holders before lasts credits) → Row (tables places holders before lasts credits) (take k answer) from active counts best
+  pub row : (positions : ℕ) → Bounded (tables positions holders before lasts credits) → Row (tables positions holders before lasts credits) (take k answer) from active counts best
 
 abbrev Inv-loop : tie.InvT-loop
 Inv-loop counts₀ best₀ answer holders before lasts credits active₀ from₀ k₀ counts best active from k = Running counts₀ best₀ answer holders before lasts credits counts best active from k

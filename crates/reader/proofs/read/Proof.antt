@@ -11,7 +11,7 @@ use borrow.Author.Needs.{needs}
 use borrow.Author.Tests.{lt-ltb, le-ltb, not-false}
 use Rattle.basics.proofs.Tests.{and-parts}
 use Rattle.pattern.specs.Grammar.{readPattern, isPattern, patternPart}
-use Rattle.pattern.specs.Positions.{atoms, places}
+use Rattle.pattern.specs.Positions.{atoms, positions}
 use Rattle.reader.specs.Rows.{Whole}
 use Rattle.reader.specs.Scan.{Describes}
 use Rattle.reader.proofs.Scanning.{scan-pattern}
@@ -58,11 +58,11 @@ passes-4 c = fails-more (tests (text3 (c .before .before))) 3 (passes-3 (c .befo
 passes-5 : (c : tie.Else5) → Passes (text3 (c .before .before .before)) 5
 passes-5 c = fails-more (tests (text3 (c .before .before .before))) 4 (passes-4 (c .before)) (sym (found (c .before .before) .hollow) ∙ c .if5 .left)
 
-few : (c : tie.Else6) → places (patternPart (text3 (c .before .before .before .before .before))) ≤ 60
+few : (c : tie.Else6) → positions (patternPart (text3 (c .before .before .before .before .before))) ≤ 60
 few c = let count = links (c .before .before .before .before .before) .count in omega (arith, c .if6 .left)
 
 passes-6 : (c : tie.Else6) → Passes (text3 (c .before .before .before .before .before)) 6
-passes-6 c = let s = text3 (c .before .before .before .before .before) in fails-more (tests s) 5 (passes-5 (c .before .before)) (le-ltb 60 (places (patternPart s)) (few c))
+passes-6 c = let s = text3 (c .before .before .before .before .before) in fails-more (tests s) 5 (passes-5 (c .before .before)) (le-ltb 60 (positions (patternPart s)) (few c))
 
 -- ---- the returns
 
@@ -123,7 +123,7 @@ returns-6 : tie.Need-returns-6
 returns-6 c =
     let s = text3 (c .before .before .before .before .before .before) in
     let count = links (c .before .before .before .before .before .before) .count in
-    refuses s 5 (c .refused6 .result) (passes-5 (c .before .before .before)) (lt-ltb 60 (places (patternPart s)) (omega (arith, c .before .if6 .taken))) (c .refused6 .ensures)
+    refuses s 5 (c .refused6 .result) (passes-5 (c .before .before .before)) (lt-ltb 60 (positions (patternPart s)) (omega (arith, c .before .if6 .taken))) (c .refused6 .ensures)
 
 built-requires : tie.Need-built-requires
 built-requires c κs = search needs

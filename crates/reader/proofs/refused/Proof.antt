@@ -5,11 +5,11 @@ use Rattle.reader.proofs.Building.{none-shown}
 use Rattle.reader.proofs.refused.Statement.{statement}
 use Rattle.reader.proofs.refused.Tie as tie
 
-none-requires : tie.Need-none-requires
-none-requires c κs = search needs
+empty-requires : tie.Need-empty-requires
+empty-requires c κs = search needs
 
 returns : tie.Need-returns
-returns c = record { refusal = refl; graph = none-shown (c .none .result) (c .none .ensures) }
+returns c = record { refusal = refl; graph = none-shown (c .empty .result) (c .empty .ensures) }
 
 pub refused-spec : {M : Type 1} → statement M
-refused-spec = tie.close (tie.spec none-requires returns)
+refused-spec = tie.close (tie.spec empty-requires returns)

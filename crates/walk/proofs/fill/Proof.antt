@@ -17,16 +17,16 @@ use Rattle.walk.proofs.fill.Statement.{statement}
 use Rattle.walk.proofs.fill.Tie as tie
 
 abbrev Inv-loop2 : tie.InvT-loop2
-Inv-loop2 rows places sets a s word₀ b₀ word b = (b ≤ places + 1) × ((j : ℕ) → hasBit word j ≡ (ltb j b && someLetter (held sets a j)))
+Inv-loop2 rows positions sets a s word₀ b₀ word b = (b ≤ positions + 1) × ((j : ℕ) → hasBit word j ≡ (ltb j b && someLetter (held sets a j)))
 
 abbrev μ-loop2 : tie.MeasureT-loop2
-μ-loop2 rows places sets a s word₀ b₀ word b = places + 1 - b
+μ-loop2 rows positions sets a s word₀ b₀ word b = positions + 1 - b
 
 abbrev Inv-loop : tie.InvT-loop
-Inv-loop rows₀ places sets a₀ rows a = (a ≤ places + 1) × ((length rows ≡ 61) × ((i b : ℕ) → i < a → b ≤ places → hasBit (getD rows i 0) b ≡ someLetter (held sets i b)))
+Inv-loop rows₀ positions sets a₀ rows a = (a ≤ positions + 1) × ((length rows ≡ 61) × ((i b : ℕ) → i < a → b ≤ positions → hasBit (getD rows i 0) b ≡ someLetter (held sets i b)))
 
 abbrev μ-loop : tie.MeasureT-loop
-μ-loop rows₀ places sets a₀ rows a = places + 1 - a
+μ-loop rows₀ positions sets a₀ rows a = positions + 1 - a
 
 loop-holds : tie.Need-loop-holds Inv-loop2 μ-loop2 Inv-loop μ-loop
 loop-holds c = (omega arith, (c .pre .1, λ i b l. absurd (omega arith)))

@@ -11,16 +11,16 @@ use Rattle.walk.proofs.first_pivot.Statement.{statement}
 use Rattle.walk.proofs.first_pivot.Tie as tie
 
 abbrev Inv-loop : tie.InvT-loop
-Inv-loop follow shares scratch₀ places q at₀ goal seen₀ w₀ scratch at seen w = Looking follow shares scratch₀ scratch seen goal q at₀ at w
+Inv-loop follow shares scratch₀ positions q at₀ goal seen₀ w₀ scratch at seen w = Looking follow shares scratch₀ scratch seen goal q at₀ at w
 
 abbrev μ-loop : tie.MeasureT-loop
-μ-loop follow shares scratch₀ places q at₀ goal seen₀ w₀ scratch at seen w = 4000 * (2048 - w .tail) + (w .tail - w .head)
+μ-loop follow shares scratch₀ positions q at₀ goal seen₀ w₀ scratch at seen w = 4000 * (2048 - w .tail) + (w .tail - w .head)
 
 abbrev Inv-pivots : tie.InvT-pivots
-Inv-pivots follow shares scratch₀ places q₀ at₀ scratch q at = Passing follow shares scratch₀ scratch places q at
+Inv-pivots follow shares scratch₀ positions q₀ at₀ scratch q at = Passing follow shares scratch₀ scratch positions q at
 
 abbrev μ-pivots : tie.MeasureT-pivots
-μ-pivots follow shares scratch₀ places q₀ at₀ scratch q at = places + 1 - q
+μ-pivots follow shares scratch₀ positions q₀ at₀ scratch q at = positions + 1 - q
 
 pivots-holds : tie.Need-pivots-holds Inv-loop μ-loop Inv-pivots μ-pivots
 pivots-holds c = record { size = refl; low = le-refl 1; still = refl; none = none-yet }

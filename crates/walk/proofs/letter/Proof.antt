@@ -26,15 +26,15 @@ mul-t c = search needs
 array-copy-out-t : tie.Need-array-copy-out-t
 array-copy-out-t c = search needs
 
-both-requires : tie.Need-both-requires
-both-requires c κs = search needs
+intersection-requires : tie.Need-intersection-requires
+intersection-requires c κs = search needs
 
 lowest-requires : tie.Need-lowest-requires
 lowest-requires c κs =
     let s = c .before .before .before .before .before in
     let a = c .before .before .before .before .left .result in
     let b = c .before .before .before .right .result in
-    some-shared (setAt (s .args .t1) a) (setAt (s .args .t1) b) (c .both .result) (s .pre .0 a) (c .both .ensures)
+    some-shared (setAt (s .args .t1) a) (setAt (s .args .t1) b) (c .intersection .result) (s .pre .0 a) (c .intersection .ensures)
     (ap₂ (λ i j. someLetter (held (s .args .t1) i j)) (c .before .before .before .before .left .ensures) (c .before .before .before .right .ensures) ∙ s .pre .1 .some)
 
 returns : tie.Need-returns
@@ -43,7 +43,7 @@ returns c =
     let s = c .before .before .before .before .before .before in
     let a = c .before .before .before .before .before .left .result in
     let b = c .before .before .before .before .right .result in
-    lowest-shared (setAt (s .args .t1) a) (setAt (s .args .t1) b) (c .before .both .result) (s .pre .0 a) (c .before .both .ensures) (c .lowest .result) (c .lowest .ensures)
+    lowest-shared (setAt (s .args .t1) a) (setAt (s .args .t1) b) (c .before .intersection .result) (s .pre .0 a) (c .before .intersection .ensures) (c .lowest .result) (c .lowest .ensures)
     ∙ ap₂ (λ i j. lowestLetter (held (s .args .t1) i j)) (c .before .before .before .before .before .left .ensures) (c .before .before .before .before .right .ensures)
 
 pub letter-spec : {M : Type 1} → statement M
@@ -56,6 +56,6 @@ letter-spec =
     array-copy-out-s
     mul-t
     array-copy-out-t
-    both-requires
+    intersection-requires
     lowest-requires
     returns)

@@ -2,15 +2,15 @@
 use mathlib.Core.Logic.{⊎-elim}
 use native.Mathlib.Omega.{arith}
 use borrow.Author.Needs.{needs}
-use Rattle.walk.proofs.Nodes.{row-places, node-cases, find-nothing, find-single, find-parting, find-parted}
+use Rattle.walk.proofs.Nodes.{row-positions, node-cases, find-nothing, find-single, find-parting, find-parted}
 use Rattle.walk.proofs.next_new.Statement.{statement}
 use Rattle.walk.proofs.next_new.Tie as tie
 
 row-requires : tie.Need-row-requires
 row-requires c κs = search needs
 
-minus-requires : tie.Need-minus-requires
-minus-requires c κs = search needs
+difference-requires : tie.Need-difference-requires
+difference-requires c κs = search needs
 
 lowest-requires : tie.Need-lowest-requires
 lowest-requires c κs = search needs
@@ -19,16 +19,16 @@ returns : tie.Need-returns
 returns c =
     let n = c .before .before in
     let r = n .before in
-    find-single (n .minus .result) (r .before .if1 .taken) (r .row .ensures) (n .minus .ensures) (c .lowest .ensures .1 .here) (c .lowest .ensures .0)
+    find-single (n .difference .result) (r .before .if1 .taken) (r .row .ensures) (n .difference .ensures) (c .lowest .ensures .1 .here) (c .lowest .ensures .0)
 
 new-pair-requires : tie.Need-new-pair-requires
-new-pair-requires c κs = let p = row-places (c .before .before .row .ensures) in (p, p)
+new-pair-requires c κs = let p = row-positions (c .before .before .row .ensures) in (p, p)
 
 returns-2 : tie.Need-returns-2
 returns-2 c =
     let n = c .before .before in
     let r = n .before in
-    find-parting (n .minus .result) (r .before .if1 .taken) (r .row .ensures) (n .minus .ensures) (omega (arith, c .before .if2 .left)) (c .new-pair .ensures)
+    find-parting (n .difference .result) (r .before .if1 .taken) (r .row .ensures) (n .difference .ensures) (omega (arith, c .before .if2 .left)) (c .new-pair .ensures)
 
 returns-3 : tie.Need-returns-3
 returns-3 c = find-nothing (λ n. ⊎-elim (λ k. omega (arith, c .before .if1 .left)) (λ k. omega (arith, c .if3 .taken)) (node-cases _ n))
@@ -46,7 +46,7 @@ row-requires-3 : tie.Need-row-requires-3
 row-requires-3 c κs = search needs
 
 new-pair-requires-2 : tie.Need-new-pair-requires-2
-new-pair-requires-2 c κs = (row-places (c .before .row2 .ensures), row-places (c .row3 .ensures))
+new-pair-requires-2 c κs = (row-positions (c .before .row2 .ensures), row-positions (c .row3 .ensures))
 
 returns-6 : tie.Need-returns-6
 returns-6 c = find-parted (c .before .before .before .before .before .if3 .left) (c .before .before .row2 .ensures) (c .before .row3 .ensures) (c .new-pair2 .ensures)
@@ -56,7 +56,7 @@ next-new-spec =
     tie.close
     (tie.spec
     row-requires
-    minus-requires
+    difference-requires
     lowest-requires
     returns
     new-pair-requires

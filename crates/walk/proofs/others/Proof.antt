@@ -15,15 +15,15 @@ returns c j =
 only-requires : tie.Need-only-requires
 only-requires c κs = search needs
 
-minus-requires : tie.Need-minus-requires
-minus-requires c κs = search needs
+difference-requires : tie.Need-difference-requires
+difference-requires c κs = search needs
 
 returns-2 : tie.Need-returns-2
 returns-2 c j =
     let s = c .before .before .before in
     let set = s .args .set in
-    c .minus .ensures j ∙ ap (λ (t : Bool). hasBit set j && not t) (c .before .only .ensures j)
+    c .difference .ensures j ∙ ap (λ (t : Bool). hasBit set j && not t) (c .before .only .ensures j)
     ∙ sym (ap (λ (t : Bool). hasBit set j && (t || not (eqb (s .args .i) j))) (c .before .before .if1 .left))
 
 pub others-spec : {M : Type 1} → statement M
-others-spec = tie.close (tie.spec returns only-requires minus-requires returns-2)
+others-spec = tie.close (tie.spec returns only-requires difference-requires returns-2)

@@ -7,11 +7,11 @@ use borrow.Author.Needs.{needs}
 use Rattle.walk.proofs.partners.Statement.{statement}
 use Rattle.walk.proofs.partners.Tie as tie
 
-both-requires : tie.Need-both-requires
-both-requires c κs = search needs
+intersection-requires : tie.Need-intersection-requires
+intersection-requires c κs = search needs
 
-minus-requires : tie.Need-minus-requires
-minus-requires c κs = search needs
+difference-requires : tie.Need-difference-requires
+difference-requires c κs = search needs
 
 others-requires : tie.Need-others-requires
 others-requires c κs = search needs
@@ -23,8 +23,8 @@ returns c =
       bits = λ b.
           c .others .ensures b
           ∙ ap (λ (t : Bool). t && (s .args .parted || not (eqb (s .args .a) b)))
-          (c .before .minus .ensures b ∙ ap (λ (t : Bool). t && not (hasBit (s .args .seen) b)) (c .before .before .both .ensures b));
+          (c .before .difference .ensures b ∙ ap (λ (t : Bool). t && not (hasBit (s .args .seen) b)) (c .before .before .intersection .ensures b));
     }
 
 pub partners-spec : {M : Type 1} → statement M
-partners-spec = tie.close (tie.spec both-requires minus-requires others-requires returns)
+partners-spec = tie.close (tie.spec intersection-requires difference-requires others-requires returns)

@@ -7,22 +7,22 @@ use borrow.Author.Needs.{needs}
 use Rattle.walk.proofs.row.Statement.{statement}
 use Rattle.walk.proofs.row.Tie as tie
 
-mul-both : tie.Need-mul-both
-mul-both c = search needs
+mul-intersection : tie.Need-mul-intersection
+mul-intersection c = search needs
 
-element-copy-out-both : tie.Need-element-copy-out-both
-element-copy-out-both c = search needs
+element-copy-out-intersection : tie.Need-element-copy-out-intersection
+element-copy-out-intersection c = search needs
 
 span-requires : tie.Need-span-requires
 span-requires c κs = search needs
 
-both-requires : tie.Need-both-requires
-both-requires c κs = search needs
+intersection-requires : tie.Need-intersection-requires
+intersection-requires c κs = search needs
 
 returns : tie.Need-returns
 returns c =
     let s = c .before .before .before in
-    record { bits = λ i. c .both .ensures i ∙ ap (λ (t : Bool). hasBit (getD (s .args .follow .now) (s .args .u) 0) i && t) (c .before .span .ensures i) }
+    record { bits = λ i. c .intersection .ensures i ∙ ap (λ (t : Bool). hasBit (getD (s .args .follow .now) (s .args .u) 0) i && t) (c .before .span .ensures i) }
 
 pub row-spec : {M : Type 1} → statement M
-row-spec = tie.close (tie.spec mul-both element-copy-out-both span-requires both-requires returns)
+row-spec = tie.close (tie.spec mul-intersection element-copy-out-intersection span-requires intersection-requires returns)

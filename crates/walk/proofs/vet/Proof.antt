@@ -1,7 +1,7 @@
 -- The tables say what the graph says, so the first pivot found is the graph's. Assumes nothing.
 use mathlib.Core.Path.{refl, _∙_}
 use native.Mathlib.Omega.{arith}
-use Rattle.graph.specs.Built.{shows}
+use Rattle.graph.specs.Built.{graphOfBuilt}
 use Rattle.walk.proofs.Answering.{rows-of, shares-of}
 use borrow.Author.Needs.{needs}
 use Rattle.walk.proofs.vet.Statement.{statement}
@@ -21,7 +21,7 @@ unless-runaway-requires c κs =
     let s = b .before .before .before .before .before .before .before .before .before .before .before .before .before in
     let fit = s .pre .0 in
     let sh = shares-of fit (rows .last .1 .0) (rows .ensures .0) in
-    let first = q .ensures (shows (s .args .b)) (rows-of fit) sh refl in
+    let first = q .ensures (graphOfBuilt (s .args .b)) (rows-of fit) sh refl in
     (fit, sh, first ∙ b .if1 .taken, s .pre .1, omega (arith, s .pre .2, q .kept .1 .1 .0))
 
 same-length : tie.Need-same-length
@@ -41,7 +41,7 @@ runaway-requires c κs =
     let s = b .before .before .before .before .before .before .before .before .before .before .before .before .before in
     let fit = s .pre .0 in
     let sh = shares-of fit (rows .last .1 .0) (rows .ensures .0) in
-    let first = q .ensures (shows (s .args .b)) (rows-of fit) sh refl in
+    let first = q .ensures (graphOfBuilt (s .args .b)) (rows-of fit) sh refl in
     (fit, sh, first, omega (arith, b .if1 .left), s .pre .1, omega (arith, s .pre .2, q .kept .1 .1 .0))
 
 same-length-3 : tie.Need-same-length-3

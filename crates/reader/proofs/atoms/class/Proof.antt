@@ -22,13 +22,13 @@ add-items c = let w = byte-within (c .before .before .before .args .s .now) (c .
 items-requires-2 : tie.Need-items-requires-2
 items-requires-2 c κs = search needs
 
-others-requires : tie.Need-others-requires
-others-requires c κs = search needs
+complement-requires : tie.Need-complement-requires
+complement-requires c κs = search needs
 
 returns-2 : tie.Need-returns-2
 returns-2 c = let a = c .before .before .before .before .before .before .args in
     let n = c .before .before .items2 in
-    λ from l. class-others (a .s .now) (a .at) (n .result) from l (c .others .result) (sym (c .before .before .before .before .byte-at .ensures) ∙ c .before .before .before .if1 .left) (n .ensures) (c .others .ensures)
+    λ from l. class-others (a .s .now) (a .at) (n .result) from l (c .complement .result) (sym (c .before .before .before .before .byte-at .ensures) ∙ c .before .before .before .if1 .left) (n .ensures) (c .complement .ensures)
 
 pub class-spec : {M : Type 1} → statement M
 class-spec =
@@ -39,5 +39,5 @@ class-spec =
     returns
     add-items
     items-requires-2
-    others-requires
+    complement-requires
     returns-2)

@@ -4,15 +4,15 @@ use borrow.Author.Needs.{needs}
 use Rattle.reader.proofs.atoms.every.Statement.{statement}
 use Rattle.reader.proofs.atoms.every.Tie as tie
 
-none-requires : tie.Need-none-requires
-none-requires c κs = search needs
+empty-requires : tie.Need-empty-requires
+empty-requires c κs = search needs
 
-others-requires : tie.Need-others-requires
-others-requires c κs = search needs
+complement-requires : tie.Need-complement-requires
+complement-requires c κs = search needs
 
 returns : tie.Need-returns
-returns c = let none = c .before .none in
-    all-named (c .before .before .args .at) (none .result) (c .others .result) (none .ensures) (c .others .ensures)
+returns c = let none = c .before .empty in
+    all-named (c .before .before .args .at) (none .result) (c .complement .result) (none .ensures) (c .complement .ensures)
 
 pub every-spec : {M : Type 1} → statement M
-every-spec = tie.close (tie.spec none-requires others-requires returns)
+every-spec = tie.close (tie.spec empty-requires complement-requires returns)

@@ -20,11 +20,11 @@ Inv-loop s at set₀ any₀ reversed₀ t₀ set any reversed t =
 abbrev μ-loop : tie.MeasureT-loop
 μ-loop s at set₀ any₀ reversed₀ t₀ set any reversed t = length s - t
 
-none-requires : tie.Need-none-requires Inv-loop μ-loop
-none-requires c κs = search needs
+empty-requires : tie.Need-empty-requires Inv-loop μ-loop
+empty-requires c κs = search needs
 
 loop-holds : tie.Need-loop-holds Inv-loop μ-loop
-loop-holds c = λ r next f l. next f [] l (sofar-none (c .none .result) (c .none .ensures))
+loop-holds c = λ r next f l. next f [] l (sofar-none (c .empty .result) (c .empty .ensures))
 
 item-requires : tie.Need-item-requires Inv-loop μ-loop
 item-requires c κs = search needs
@@ -37,8 +37,8 @@ returns c = let at = c .before .before .before .before .loop in
 range-requires : tie.Need-range-requires Inv-loop μ-loop
 range-requires c κs = search needs
 
-joined-requires : tie.Need-joined-requires Inv-loop μ-loop
-joined-requires c κs = search needs
+union-requires : tie.Need-union-requires Inv-loop μ-loop
+union-requires c κs = search needs
 
 loop-less : tie.Need-loop-less Inv-loop μ-loop
 loop-less c = let i = c .before .before .before .before .before .item in
@@ -49,7 +49,7 @@ loop-again : tie.Need-loop-again Inv-loop μ-loop
 loop-again c = let at = c .before .before .before .before .before .before .loop in
     let i = c .before .before .before .before .before .item in
     let range = c .before .before .range in
-    let joined = c .before .joined in
+    let joined = c .before .union in
     let more = i .ensures .yes (not-false (i .result .more) (c .before .before .before .if1 .left)) in
     λ r next. at .inv r (read-one (c .before .before .before .before .before .before .before .before .before .args .s .now) (at .t) (at .set) (at .any) (at .reversed) (i .result) (range .result) (joined .result) more (range .ensures) (joined .ensures) r next)
 
@@ -59,11 +59,11 @@ items-spec =
     (tie.spec
     Inv-loop
     μ-loop
-    none-requires
+    empty-requires
     loop-holds
     item-requires
     returns
     range-requires
-    joined-requires
+    union-requires
     loop-less
     loop-again)

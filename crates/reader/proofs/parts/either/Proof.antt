@@ -7,18 +7,18 @@ use Rattle.reader.proofs.Reading.{combines}
 use Rattle.reader.proofs.parts.either.Statement.{statement}
 use Rattle.reader.proofs.parts.either.Tie as tie
 
-joined-requires : tie.Need-joined-requires
-joined-requires c κs = search needs
+union-requires : tie.Need-union-requires
+union-requires c κs = search needs
 
-joined-requires-2 : tie.Need-joined-requires-2
-joined-requires-2 c κs = search needs
+union-requires-2 : tie.Need-union-requires-2
+union-requires-2 c κs = search needs
 
 returns : tie.Need-returns
 returns c =
     let start = c .before .before .before .args in
     combines either (start .empty) _ (start .firsts) (start .lasts) _ _ (start .b) _
     (λ n before p q a ha hb.
-    has-either n before p (ended a (start .empty) (start .firsts) (start .lasts)) ha q (start .b) hb _ _ (c .before .joined .ensures) (c .joined2 .ensures))
+    has-either n before p (ended a (start .empty) (start .firsts) (start .lasts)) ha q (start .b) hb _ _ (c .before .union .ensures) (c .union2 .ensures))
 
 pub either-spec : {M : Type 1} → statement M
-either-spec = tie.close (tie.spec joined-requires joined-requires-2 returns)
+either-spec = tie.close (tie.spec union-requires union-requires-2 returns)

@@ -6,14 +6,14 @@ use Rattle.bits.specs.Bits.{hasBit}
 use Rattle.reader.proofs.parts.joined_if.Statement.{statement}
 use Rattle.reader.proofs.parts.joined_if.Tie as tie
 
-joined-requires : tie.Need-joined-requires
-joined-requires c κs = search needs
+union-requires : tie.Need-union-requires
+union-requires c κs = search needs
 
 returns : tie.Need-returns
-returns c b = rw (c .before .if1 .taken) (c .joined .ensures b)
+returns c b = rw (c .before .if1 .taken) (c .union .ensures b)
 
 returns-2 : tie.Need-returns-2
 returns-2 c b = rw (c .if1 .left) (sym (or-false (hasBit (c .before .args .x) b)))
 
 pub joined-if-spec : {M : Type 1} → statement M
-joined-if-spec = tie.close (tie.spec joined-requires returns returns-2)
+joined-if-spec = tie.close (tie.spec union-requires returns returns-2)

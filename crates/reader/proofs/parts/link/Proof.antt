@@ -27,23 +27,23 @@ index {m} {t} h l = member-below 61 m t h (l .here)
 below-requires : tie.Need-below-requires Inv-loop μ-loop
 below-requires c κs = search needs
 
-both-requires : tie.Need-both-requires Inv-loop μ-loop
-both-requires c κs = search needs
+intersection-requires : tie.Need-intersection-requires Inv-loop μ-loop
+intersection-requires c κs = search needs
 
 loop-holds : tie.Need-loop-holds Inv-loop μ-loop
-loop-holds c = (search needs, lt-of-high 61 (c .both .result) (c .both .ok) (λ j h. c .both .ensures j ∙ ap (λ (t : Bool). t && hasBit (c .before .before .args .lasts) j) (c .before .below .ensures j ∙ le-ltb j 61 h)), λ a b. refl)
+loop-holds c = (search needs, lt-of-high 61 (c .intersection .result) (c .intersection .ok) (λ j h. c .intersection .ensures j ∙ ap (λ (t : Bool). t && hasBit (c .before .before .args .lasts) j) (c .before .below .ensures j ∙ le-ltb j 61 h)), λ a b. refl)
 
 lowest-requires : tie.Need-lowest-requires Inv-loop μ-loop
 lowest-requires c κs = search needs
 
-mul-joined : tie.Need-mul-joined Inv-loop μ-loop
-mul-joined c = search needs
+mul-union : tie.Need-mul-union Inv-loop μ-loop
+mul-union c = search needs
 
-array-read-joined : tie.Need-array-read-joined Inv-loop μ-loop
-array-read-joined c = index (c .before .before .loop .inv .1) (c .lowest .ensures .1)
+array-read-union : tie.Need-array-read-union Inv-loop μ-loop
+array-read-union c = index (c .before .before .loop .inv .1) (c .lowest .ensures .1)
 
-joined-requires : tie.Need-joined-requires Inv-loop μ-loop
-joined-requires c κs = search needs
+union-requires : tie.Need-union-requires Inv-loop μ-loop
+union-requires c κs = search needs
 
 mul-out : tie.Need-mul-out Inv-loop μ-loop
 mul-out c = search needs
@@ -66,7 +66,7 @@ loop-again c =
       simp length-set (at .inv .0),
       omega (arith, at .inv .1, c .rest .ensures .0),
       λ a b.
-          link-turn (at .out) (at .left) firsts (t .result) (c .before .joined .result) (c .rest .result) (omega (arith, at .inv .0)) (t .ensures .1) (c .rest .ensures .1 (t .result) (t .ensures .1)) (c .before .joined .ensures) a b
+          link-turn (at .out) (at .left) firsts (t .result) (c .before .union .result) (c .rest .result) (omega (arith, at .inv .0)) (t .ensures .1) (c .rest .ensures .1 (t .result) (t .ensures .1)) (c .before .union .ensures) a b
           ∙ at .inv .2 a b,
     )
 
@@ -76,7 +76,7 @@ returns c a b =
     let start = c .before .before .before .before .args in
     link-end (at .out) (at .left) (start .firsts) (omega arith) a b ∙ at .inv .2 a b
     ∙ ap (λ (t : Bool). hasBit (getD (start .rows) a 0) b || (t && hasBit (start .firsts) b))
-    (c .before .before .both .ensures a ∙ ap (λ (t : Bool). t && hasBit (start .lasts) a) (c .before .before .before .below .ensures a))
+    (c .before .before .intersection .ensures a ∙ ap (λ (t : Bool). t && hasBit (start .lasts) a) (c .before .before .before .below .ensures a))
 
 pub link-spec : {M : Type 1} → statement M
 link-spec =
@@ -85,12 +85,12 @@ link-spec =
     Inv-loop
     μ-loop
     below-requires
-    both-requires
+    intersection-requires
     loop-holds
     lowest-requires
-    mul-joined
-    array-read-joined
-    joined-requires
+    mul-union
+    array-read-union
+    union-requires
     mul-out
     array-write-out
     rest-requires

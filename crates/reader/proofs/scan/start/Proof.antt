@@ -5,11 +5,11 @@ use Rattle.reader.proofs.Describing.{none-described}
 use Rattle.reader.proofs.scan.start.Statement.{statement}
 use Rattle.reader.proofs.scan.start.Tie as tie
 
-none-requires : tie.Need-none-requires
-none-requires c κs = search needs
+empty-requires : tie.Need-empty-requires
+empty-requires c κs = search needs
 
 returns : tie.Need-returns
-returns c = (refl, none-described (c .none .result) (c .none .ensures))
+returns c = (refl, none-described (c .empty .result) (c .empty .ensures))
 
 pub start-spec : {M : Type 1} → statement M
-start-spec = tie.close (tie.spec none-requires returns)
+start-spec = tie.close (tie.spec empty-requires returns)

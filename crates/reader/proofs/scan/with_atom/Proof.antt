@@ -24,8 +24,8 @@ array-set-from-letters c = search needs
 array-write-credits : tie.Need-array-write-credits
 array-write-credits c = search needs
 
-is-none-requires : tie.Need-is-none-requires
-is-none-requires c κs = search needs
+is-empty-requires : tie.Need-is-empty-requires
+is-empty-requires c κs = search needs
 
 -- the tables' lengths
 wide-letters : (c : tie.Start) → length (c .args .f .letters) ≡ 61
@@ -43,7 +43,7 @@ returns c =
     let sets = wide-letters start in
     let numbers = wide-credits start in
     let met = c .before .before .before .before .if1 in
-    let none = c .before .is-none in
+    let none = c .before .is-empty in
     record {
       place = refl;
       count = refl;
@@ -62,5 +62,5 @@ with-atom-spec =
     mul-letters
     array-set-from-letters
     array-write-credits
-    is-none-requires
+    is-empty-requires
     returns)

@@ -8,11 +8,11 @@ use lib.ListN.{length}
 use Rattle.basics.specs.Choice.{if_then_else_}
 use Rattle.letters.specs.Alphabet.{allLetters}
 use Rattle.pattern.specs.Grammar.{isPattern, patternPart}
-use Rattle.pattern.specs.Positions.{atoms, places}
-use Rattle.pattern.specs.Refusals.{patternFault, anyReversed, anyEmpty}
+use Rattle.pattern.specs.Positions.{atoms, positions}
+use Rattle.pattern.specs.Refusals.{patternRefusal, anyReversed, anyEmpty}
 use Rattle.document_03.specs.Patterns as D
 use Rattle.document_03.proofs.Grammar.{same-read}
-use Rattle.document_03.proofs.Positions.{same-atoms, same-reversed, same-empty, same-places}
+use Rattle.document_03.proofs.Positions.{same-atoms, same-reversed, same-empty, same-positions}
 
 in-turn : (a b c d e f : Bool)
     → D.firstOf (D.when a 3) (D.firstOf (D.when b 4) (D.firstOf (D.when c 5) (D.firstOf (D.when d 6) (D.firstOf (D.when e 7) (D.when f 8)))))
@@ -25,9 +25,9 @@ in-turn false false false false true f = refl
 in-turn false false false false false true = refl
 in-turn false false false false false false = refl
 
-pub same-fault : (b : List ℕ) → D.patternFault b ≡ patternFault b
-same-fault b =
+pub same-refusal : (b : List ℕ) → D.patternRefusal b ≡ patternRefusal b
+same-refusal b =
     let r = same-read b in
     let al = same-atoms (r .part) in
-    rw (← r .good, ← r .rest, ← same-reversed al, ← same-empty al, ← same-places (r .part))
-    (in-turn (ltb 512 (length b)) (not (allLetters b)) (not (isPattern b)) (anyReversed (atoms (patternPart b))) (anyEmpty (atoms (patternPart b))) (ltb 60 (places (patternPart b))))
+    rw (← r .good, ← r .rest, ← same-reversed al, ← same-empty al, ← same-positions (r .part))
+    (in-turn (ltb 512 (length b)) (not (allLetters b)) (not (isPattern b)) (anyReversed (atoms (patternPart b))) (anyEmpty (atoms (patternPart b))) (ltb 60 (positions (patternPart b))))

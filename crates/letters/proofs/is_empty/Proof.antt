@@ -2,8 +2,8 @@
 use native.Mathlib.Omega.{arith}
 use borrow.Author.Tests.{eqb-true, eqb-false}
 use Rattle.letters.proofs.Sets.{zero-none, some-of, low-word, high-word}
-use Rattle.letters.proofs.is_none.Statement.{statement}
-use Rattle.letters.proofs.is_none.Tie as tie
+use Rattle.letters.proofs.is_empty.Statement.{statement}
+use Rattle.letters.proofs.is_empty.Tie as tie
 
 returns : tie.Need-returns
 returns c =
@@ -20,5 +20,5 @@ returns-2 c =
       λ e. some-of s 32 (s .low) (low-word s (omega arith)) (omega (arith, eqb-false (s .low) 0 e)),
     )
 
-pub is-none-spec : {M : Type 1} → statement M
-is-none-spec = tie.close (tie.spec returns returns-2)
+pub is-empty-spec : {M : Type 1} → statement M
+is-empty-spec = tie.close (tie.spec returns returns-2)

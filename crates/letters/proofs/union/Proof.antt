@@ -4,8 +4,8 @@ use mathlib.Core.Bool.{_||_}
 use lib.Bits.{bitOr}
 use Rattle.bits.proofs.Laws.{has-or}
 use Rattle.letters.proofs.Sets.{pointwise}
-use Rattle.letters.proofs.joined.Statement.{statement}
-use Rattle.letters.proofs.joined.Tie as tie
+use Rattle.letters.proofs.union.Statement.{statement}
+use Rattle.letters.proofs.union.Tie as tie
 
 returns : tie.Need-returns
 returns c =
@@ -13,5 +13,5 @@ returns c =
     let t = c .before .before .before .before .args .t in
     pointwise _||_ record { low = bitOr (s .low) (t .low); high = bitOr (s .high) (t .high) } s t refl (has-or (s .low) (t .low)) (has-or (s .high) (t .high))
 
-pub joined-spec : {M : Type 1} → statement M
-joined-spec = tie.close (tie.spec returns)
+pub union-spec : {M : Type 1} → statement M
+union-spec = tie.close (tie.spec returns)

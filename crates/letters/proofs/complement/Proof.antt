@@ -10,8 +10,8 @@ use Rattle.bits.specs.Bits.{hasBit}
 use Rattle.bits.proofs.Laws.{has-and, has-ones, has-not}
 use Rattle.letters.specs.LetterSet.{hasLetter}
 use Rattle.letters.proofs.Sets.{at-low, at-high, by-words}
-use Rattle.letters.proofs.others.Statement.{statement}
-use Rattle.letters.proofs.others.Tie as tie
+use Rattle.letters.proofs.complement.Statement.{statement}
+use Rattle.letters.proofs.complement.Tie as tie
 
 returns : tie.Need-returns
 returns c =
@@ -24,5 +24,5 @@ returns c =
     (λ i h. high i ∙ ap₂ (λ (t u : Bool). t && (u && not (hasBit (s .high) i))) (lt-ltb i 31 h) (lt-ltb i 64 (omega arith)) ∙ ap not (sym (at-high s i)))
     (λ i h. high i ∙ ap (λ (t : Bool). t && (ltb i 64 && not (hasBit (s .high) i))) (le-ltb i 31 h))
 
-pub others-spec : {M : Type 1} → statement M
-others-spec = tie.close (tie.spec returns)
+pub complement-spec : {M : Type 1} → statement M
+complement-spec = tie.close (tie.spec returns)

@@ -4,8 +4,8 @@ use mathlib.Core.Bool.{_&&_}
 use lib.Bits.{bitAnd}
 use Rattle.bits.proofs.Laws.{has-and}
 use Rattle.letters.proofs.Sets.{pointwise}
-use Rattle.letters.proofs.both.Statement.{statement}
-use Rattle.letters.proofs.both.Tie as tie
+use Rattle.letters.proofs.intersection.Statement.{statement}
+use Rattle.letters.proofs.intersection.Tie as tie
 
 returns : tie.Need-returns
 returns c =
@@ -13,5 +13,5 @@ returns c =
     let t = c .before .before .before .before .args .t in
     pointwise _&&_ record { low = bitAnd (s .low) (t .low); high = bitAnd (s .high) (t .high) } s t refl (has-and (s .low) (t .low)) (has-and (s .high) (t .high))
 
-pub both-spec : {M : Type 1} → statement M
-both-spec = tie.close (tie.spec returns)
+pub intersection-spec : {M : Type 1} → statement M
+intersection-spec = tie.close (tie.spec returns)
