@@ -31,6 +31,17 @@ pub fn with(mask: u64, i: usize) -> u64
     mask | (1 << i)
 }
 
+// The members, and i where `yes` says so.
+pub fn with_if(mask: u64, i: usize, yes: bool) -> u64
+    requires { ⌜ i < 64 ⌝ }
+    ensures { λ r. ⌜ ((j : ℕ) → hasBit r j ≡ (hasBit mask j || (yes && eqb i j))) ⌝ }
+{
+    if yes {
+        return with(mask, i);
+    }
+    mask
+}
+
 // The members of a and those of b.
 pub fn union(a: u64, b: u64) -> u64
     ensures { λ r. ⌜ ((j : ℕ) → hasBit r j ≡ (hasBit a j || hasBit b j)) ⌝ }

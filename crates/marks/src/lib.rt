@@ -112,17 +112,6 @@ fn fill(counts: &mut [u64], best: &mut [u32], from: usize, at: usize, members: u
     best[at] = std::num::wrapping_add_u32(here.most, credit as u32);
 }
 
-// The set with i, where `some` is not empty.
-fn with_if(set: u64, i: usize, some: u64) -> u64
-    requires { ⌜ i < 64 ⌝ }
-    ensures { λ r. ⌜ ((j : ℕ) → hasBit r j ≡ (hasBit set j || (ltb 0 some && eqb i j))) ⌝ }
-{
-    if some == 0 {
-        return set;
-    }
-    bits::with(set, i)
-}
-
 // One letter on: the row at `to` from the row at `from`, whose possible states are `active`, by a letter that the positions of
 // `holds` hold. Returns the states that are possible then.
 fn step(
@@ -145,7 +134,7 @@ fn step(
         let i = bits::lowest(left);
         let members = before[i] & active;
         fill(counts, best, from, to + i, members, credits[i]);
-        out = with_if(out, i, members);
+        out = bits::with_if(out, i, 0 < members);
         left = bits::rest(left);
     }
     out

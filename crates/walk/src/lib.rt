@@ -382,17 +382,6 @@ fn share(s: LetterSet, t: LetterSet) -> bool
     !letters::is_empty(letters::intersection(s, t))
 }
 
-// The members of a set, and i where `yes` says so.
-fn with_if(mask: u64, i: usize, yes: bool) -> u64
-    requires { ⌜ i < 64 ⌝ }
-    ensures { λ r. ⌜ ((j : ℕ) → hasBit r j ≡ (hasBit mask j || (yes && eqb i j))) ⌝ }
-{
-    if yes {
-        return bits::with(mask, i);
-    }
-    mask
-}
-
 // The numbers up to `positions` whose sets share a letter with that of a, for every such a, in rows. The sets are read here and not
 // in a function of one row, which would copy them all.
 fn fill(sets: [LetterSet; 61], rows: &mut [u64; 61], positions: usize)
@@ -406,7 +395,7 @@ fn fill(sets: [LetterSet; 61], rows: &mut [u64; 61], positions: usize)
         let mut b: usize = 0;
         while b <= positions {
             let t = sets[b];
-            word = with_if(word, b, share(s, t));
+            word = bits::with_if(word, b, share(s, t));
             b += 1;
         }
         rows[a] = word;

@@ -2,10 +2,10 @@
 use mathlib.Core.Path.{sym, ap, _∙_}
 use mathlib.Core.Bool.{Bool, _&&_, _||_, or-false}
 use lib.Dec.{eqb}
 use Rattle.bits.specs.Bits.{hasBit}
 use borrow.Author.Needs.{needs}
-use Rattle.walk.proofs.with_if.Statement.{statement}
-use Rattle.walk.proofs.with_if.Tie as tie
+use Rattle.bits.proofs.with_if.Statement.{statement}
+use Rattle.bits.proofs.with_if.Tie as tie
 
 with-requires : tie.Need-with-requires
 with-requires c κs = search needs
