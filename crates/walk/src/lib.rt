@@ -82,7 +82,11 @@ fn partners(to: u64, shared: u64, seen: u64, a: usize, parted: bool) -> u64
     requires { ⌜ a < 64 ⌝ }
     ensures { λ r. ⌜ PartnersOf to shared seen a parted r ⌝ }
 {
-    others(bits::difference(bits::intersection(to, shared), seen), a, parted)
+    others(
+        bits::difference(bits::intersection(to, shared), seen),
+        a,
+        parted,
+    )
 }
 
 // A pair that is not taken up, of a position of `from` and one of `to`.
