@@ -1,15 +1,10 @@
 -- The graph that a built pattern shows.
-use mathlib.Core.List.{List}
-use Prim.Native.Nat.{ℕ}
 use lib.ListN.{getD}
 use Rattle.bits.specs.Bits.{hasBit}
 use Rattle.letters.specs.LetterSet.{hasLetter}
-use Rattle.letters.specs.declared.LetterSet.{LetterSet}
+use Rattle.letters.specs.Table.{setAt}
 use Rattle.graph.specs.Graph.{Graph}
 use Rattle.graph.specs.declared.Built.{Built}
-
-abbrev pub setAt : List LetterSet → ℕ → LetterSet
-setAt sets i = getD sets i record { low = 0; high = 0 }
 
 abbrev pub graphOfBuilt : Built → Graph
 graphOfBuilt b = record {

@@ -1,3 +1,4 @@
 -- The letters, and sets of them.
 pub mod Alphabet
 pub mod LetterSet
+pub mod Table

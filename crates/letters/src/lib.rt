@@ -1,5 +1,7 @@
 // The letters, and sets of them. The contract of a set says of each code c, letter or not, whether the set has it, and
 // only the lowest letter and the rest ask that the set is not empty.
+pub mod table;
+
 ghost use mathlib.Core.Path.{_≡_};
 ghost use mathlib.Core.Bool.{true, false, not, _&&_, _||_};
 ghost use Prim.Native.Nat.{ℕ, _<_, _≤_, _+_};
@@ -101,35 +103,23 @@ pub fn range(a: u8, b: u8) -> LetterSet
     }
 }
 
-// One past the last letter that is at most b: 127 for a code past the letters.
-fn past(b: u8) -> u8
-    ensures { λ r. ⌜ ((c : ℕ) → ltb c r ≡ (leb c 126 && leb c b)) ⌝ }
+// The letter alone: no letter where the code is none.
+pub fn only(code: u8) -> LetterSet
+    ensures { λ r. ⌜ ((c : ℕ) → hasLetter r c ≡ (isLetter c && (leb code c && leb c code))) ⌝ }
 {
-    if b < 126 {
-        return b + 1;
+    if !is_letter(code) {
+        return empty();
     }
-    127
-}
-
-// The codes from a on that are below end, as bits of the word that holds the 64 codes from base on.
-fn word(a: u8, end: u8, base: u8) -> u64
-    ensures { λ r. ⌜ ((j : ℕ) → hasBit r j ≡ (ltb j 64 && (leb a (base + j) && ltb (base + j) end))) ⌝ }
-{
-    bits::span(cut(a, base), cut(end, base))
-}
-
-// How many of the 64 codes from base on are below `code`: none for a code up to base, and all for one past them.
-fn cut(code: u8, base: u8) -> usize
-    ensures { λ r. ⌜ (r ≤ 64) × ((j : ℕ) → j < 64 → ltb j r ≡ ltb (base + j) code) ⌝ }
-{
-    if code <= base {
-        return 0;
+    if code < 96 {
+        return LetterSet {
+            low: bits::only((code - 32) as usize),
+            high: 0,
+        };
     }
-    let n = (code - base) as usize;
-    if n < 64 {
-        return n;
+    LetterSet {
+        low: 0,
+        high: bits::only((code - 96) as usize),
     }
-    64
 }
 
 // Has the set no letter.
@@ -166,4 +156,35 @@ pub fn rest(s: LetterSet) -> LetterSet
         low: 0,
         high: bits::rest(s.high),
     }
+}
+
+// One past the last letter that is at most b: 127 for a code past the letters.
+fn past(b: u8) -> u8
+    ensures { λ r. ⌜ ((c : ℕ) → ltb c r ≡ (leb c 126 && leb c b)) ⌝ }
+{
+    if b < 126 {
+        return b + 1;
+    }
+    127
+}
+
+// The codes from a on that are below end, as bits of the word that holds the 64 codes from base on.
+fn word(a: u8, end: u8, base: u8) -> u64
+    ensures { λ r. ⌜ ((j : ℕ) → hasBit r j ≡ (ltb j 64 && (leb a (base + j) && ltb (base + j) end))) ⌝ }
+{
+    bits::span(cut(a, base), cut(end, base))
+}
+
+// How many of the 64 codes from base on are below `code`: none for a code up to base, and all for one past them.
+fn cut(code: u8, base: u8) -> usize
+    ensures { λ r. ⌜ (r ≤ 64) × ((j : ℕ) → j < 64 → ltb j r ≡ ltb (base + j) code) ⌝ }
+{
+    if code <= base {
+        return 0;
+    }
+    let n = (code - base) as usize;
+    if n < 64 {
+        return n;
+    }
+    64
 }

@@ -16,7 +16,8 @@ use Rattle.bits.specs.Bits.{hasBit}
 use Rattle.bits.proofs.Laws.{has-none, lt-of-high}
 use Rattle.letters.specs.LetterSet.{hasLetter}
 use Rattle.graph.specs.Graph.{Bounded}
-use Rattle.graph.specs.Built.{setAt, graphOfBuilt}
+use Rattle.letters.specs.Table.{setAt}
+use Rattle.graph.specs.Built.{graphOfBuilt}
 use Rattle.graph.specs.declared.Built.{Built}
 use Rattle.graph.proofs.Walks.{position-of}
 use Rattle.marks.specs.Tables.{Columns, Entered, tables}

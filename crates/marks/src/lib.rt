@@ -11,7 +11,8 @@ ghost use lib.ListN.{length, getD, set};
 ghost use Rattle.bits.specs.Bits.{hasBit};
 ghost use Rattle.letters.specs.LetterSet.{hasLetter};
 ghost use Rattle.graph.specs.Graph.{Bounded};
-ghost use Rattle.graph.specs.Built.{setAt, graphOfBuilt};
+ghost use Rattle.letters.specs.Table.{setAt};
+ghost use Rattle.graph.specs.Built.{graphOfBuilt};
 ghost use Rattle.marks.specs.Rows.{cell, stored, countOf, mostOf, Outside, Stepped, Answered};
 ghost use Rattle.marks.specs.Tables.{Columns, Entered, tables};
 

@@ -14,7 +14,7 @@ use Rattle.letters.specs.Alphabet.{isLetter, someLetter}
 use Rattle.letters.specs.LetterSet.{hasLetter, Some}
 use Rattle.letters.specs.declared.LetterSet.{LetterSet}
 use Rattle.letters.proofs.Sets.{zero-none, none-same}
-use Rattle.graph.specs.Built.{setAt}
+use Rattle.letters.specs.Table.{setAt}
 use Rattle.pattern.specs.Parts.{Atom, holds, Part}
 use Rattle.pattern.specs.Grammar.{noAtom}
 use Rattle.pattern.specs.Positions.{atoms}

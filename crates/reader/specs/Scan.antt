@@ -6,7 +6,7 @@ use Prim.Native.Nat.{ℕ, _+_, _≤_, _<_}
 use lib.ListN.{length, getD, take, drop}
 use Rattle.basics.specs.Bytes.{codes, isIn}
 use Rattle.letters.specs.LetterSet.{hasLetter}
-use Rattle.graph.specs.Built.{setAt}
+use Rattle.letters.specs.Table.{setAt}
 use Rattle.pattern.specs.Parts.{Atom, holds, Part}
 use Rattle.pattern.specs.Grammar.{noAtom, readLetter}
 use Rattle.pattern.specs.Positions.{atoms}

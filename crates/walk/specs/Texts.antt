@@ -8,7 +8,7 @@ use Rattle.basics.specs.Lists.{Apart, endOf, Chain}
 use Rattle.letters.specs.Alphabet.{isLetter, someLetter, lowestLetter}
 use Rattle.letters.specs.LetterSet.{hasLetter}
 use Rattle.letters.specs.declared.LetterSet.{LetterSet}
-use Rattle.graph.specs.Built.{setAt}
+use Rattle.letters.specs.Table.{setAt}
 use Rattle.walk.specs.declared.Goal.{Goal}
 use Rattle.walk.specs.Nodes.{leftOf, rightOf, Step}
 use Rattle.walk.specs.Walks.{queue, backOf, isGoal}

@@ -4,7 +4,7 @@ use Prim.Native.Nat.{ℕ, _≤_, _-_}
 use native.Mathlib.Omega.{arith}
 use lib.ListN.{length}
 use Rattle.letters.specs.LetterSet.{hasLetter}
-use Rattle.graph.specs.Built.{setAt}
+use Rattle.letters.specs.Table.{setAt}
 use Rattle.marks.specs.Tables.{Columns}
 use Rattle.marks.proofs.Columns.{columns-start, columns-on}
 use Rattle.marks.proofs.holders_of.Statement.{statement}

@@ -1,7 +1,7 @@
 -- The set of both holds just what the two share, so its lowest letter is theirs. Assumes nothing.
 use mathlib.Core.Path.{ap₂, _∙_}
 use Rattle.letters.specs.Alphabet.{someLetter, lowestLetter}
-use Rattle.graph.specs.Built.{setAt}
+use Rattle.letters.specs.Table.{setAt}
 use Rattle.walk.specs.Texts.{held, letterAt}
 use Rattle.walk.proofs.Letters.{some-shared, lowest-shared}
 use borrow.Author.Needs.{needs}
