@@ -19,9 +19,9 @@ use Rattle.pattern.specs.Parts.{Atom, holds, Part}
 use Rattle.pattern.specs.Grammar.{noAtom}
 use Rattle.pattern.specs.Positions.{atoms}
 use Rattle.pattern.specs.Refusals.{someReversed, anyReversed, anyEmpty}
-use Rattle.reader.specs.Atoms.{IsAtom}
+use Rattle.atoms.specs.Atoms.{IsAtom}
 use Rattle.reader.specs.Scan.{atomOf, Describes}
-use Rattle.reader.specs.declared.atoms.Lettered.{Lettered}
+use Rattle.atoms.specs.declared.Lettered.{Lettered}
 use Rattle.reader.specs.declared.scan.Scanned.{Scanned}
 
 -- ---- no atom

@@ -1,6 +1,3 @@
-pub mod Places
-pub mod Members
-pub mod Lettering
 pub mod Sets
 pub mod Reading
 pub mod Scanning

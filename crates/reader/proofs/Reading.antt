@@ -17,11 +17,11 @@ use Rattle.basics.proofs.Tests.{by-test, if-yes, if-no, and-parts, and-when}
 use Rattle.bits.specs.Bits.{hasBit}
 use Rattle.pattern.specs.Parts.{Repeat, optional, star, plus, skips, loops, Part, again}
 use Rattle.pattern.specs.Grammar.{Read, read, broken, peek, readLetter, repeated, patternFrom, pieceFrom}
-use Rattle.reader.specs.declared.atoms.Lettered.{Lettered}
+use Rattle.atoms.specs.declared.Lettered.{Lettered}
 use Rattle.reader.specs.declared.parts.Parsed.{Parsed}
-use Rattle.reader.specs.Atoms.{ReadsAtom}
+use Rattle.atoms.specs.Atoms.{ReadsAtom}
 use Rattle.reader.specs.Rows.{Marks, Linked, Has, Gives, Stands, Reading, both, barNext, closedRead, Changes, Repeats, Combines, ended}
-use Rattle.reader.proofs.Places.{next-within}
+use Rattle.atoms.proofs.Places.{next-within}
 use Rattle.reader.proofs.Sets.{made, placed, has-at, has-letter, has-again}
 
 -- ---- a result

@@ -13,9 +13,9 @@ use Rattle.basics.specs.Bytes.{isIn}
 use Rattle.pattern.specs.Parts.{Atom}
 use Rattle.pattern.specs.Grammar.{readLetter}
 use Rattle.pattern.specs.Positions.{atoms}
-use Rattle.reader.specs.Atoms.{ReadsAtom}
+use Rattle.atoms.specs.Atoms.{ReadsAtom}
 use Rattle.reader.specs.Scan.{structure, Scan, done, passed, taken, Describes, Gains, Partway, Goes}
-use Rattle.reader.specs.declared.atoms.Lettered.{Lettered}
+use Rattle.atoms.specs.declared.Lettered.{Lettered}
 use Rattle.reader.specs.declared.scan.Scanned.{Scanned}
 use Rattle.reader.proofs.Scanning.{Takes, passes, takes}
 

@@ -11,8 +11,8 @@ use Rattle.pattern.specs.Parts.{Atom, holds, Part}
 use Rattle.pattern.specs.Grammar.{noAtom, readLetter}
 use Rattle.pattern.specs.Positions.{atoms}
 use Rattle.pattern.specs.Refusals.{anyReversed, anyEmpty}
-use Rattle.reader.specs.Atoms.{IsAtom}
-use Rattle.reader.specs.declared.atoms.Lettered.{Lettered}
+use Rattle.atoms.specs.Atoms.{IsAtom}
+use Rattle.atoms.specs.declared.Lettered.{Lettered}
 use Rattle.reader.specs.declared.scan.Scanned.{Scanned}
 
 -- the bytes that stand between lettered atoms

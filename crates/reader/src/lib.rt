@@ -1,5 +1,4 @@
 // Reading a pattern: its refusal, or the built pattern. `read` takes any bytes.
-mod atoms;
 mod parts;
 mod scan;
 

@@ -1,7 +1,6 @@
 // Patterns, branches and pieces: three functions that call each other, as those of the grammar do. Each takes what was read
 // before it and gives that with its own part added, so that there is one value, whose rows grow from left to right.
 // The other functions make one value of one or two, and have no part in the recursion.
-use crate::atoms;
 ghost use mathlib.Core.Path.{_≡_};
 ghost use mathlib.Core.Bool.{_&&_, _||_};
 ghost use Prim.Native.Nat.{ℕ, _≤_, _<_};

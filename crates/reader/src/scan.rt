@@ -1,6 +1,6 @@
 // A scan of a pattern: its lettered atoms from left to right, whatever stands between them.
-use crate::atoms::Lettered;
-use crate::atoms::atom;
+use atoms::Lettered;
+use atoms::atom;
 use letters::LetterSet;
 ghost use mathlib.Core.Path.{_≡_};
 ghost use mathlib.Core.List.{List, []};

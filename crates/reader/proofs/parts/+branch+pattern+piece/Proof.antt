@@ -10,7 +10,7 @@ use Rattle.basics.proofs.Tests.{and-parts}
 use Rattle.pattern.specs.Parts.{either, joined}
 use Rattle.pattern.specs.Grammar.{goesOn, patternFrom, branchFrom, pieceFrom}
 use Rattle.reader.specs.Rows.{barNext}
-use Rattle.reader.proofs.Places.{next-within}
+use Rattle.atoms.proofs.Places.{next-within}
 use Rattle.reader.proofs.Reading.{bar-within, alone, with-more, reading-gives, piece-letter, piece-open}
 use borrow.Fn.Kinds.{In}
 use borrow.Fn.PlainCycle.{Measures, is, falls, and}
@@ -23,7 +23,7 @@ use Rattle.reader.proofs.parts.+branch+pattern+piece.Lts-pattern as pat
 use Rattle.reader.proofs.parts.piece.Reads as piece
 use Rattle.reader.proofs.parts.piece.Kinds as piece-kinds
 use Rattle.reader.proofs.parts.+branch+pattern+piece.Lts-piece as piece-lts
-use Rattle.reader.proofs.atoms.byte_at.Reads as byte-at-reads
+use Rattle.atoms.proofs.byte_at.Reads as byte-at-reads
 use Rattle.reader.proofs.parts.closed.Reads as closed-reads
 use Rattle.reader.proofs.parts.either.Reads as either-reads
 use Rattle.reader.proofs.parts.goes_on.Reads as goes-on-reads

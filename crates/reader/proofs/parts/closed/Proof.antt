@@ -2,7 +2,7 @@
 use mathlib.Core.Path.{refl}
 use native.Mathlib.Omega.{arith}
 use borrow.Author.Needs.{needs}
-use Rattle.reader.proofs.Places.{next-within}
+use Rattle.atoms.proofs.Places.{next-within}
 use Rattle.reader.proofs.Reading.{close-not, close-stands}
 use Rattle.reader.proofs.parts.closed.Statement.{statement}
 use Rattle.reader.proofs.parts.closed.Tie as tie

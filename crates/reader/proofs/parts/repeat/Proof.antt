@@ -2,7 +2,7 @@
 use native.Mathlib.Omega.{arith}
 use borrow.Author.Needs.{needs}
 use Rattle.pattern.specs.Parts.{optional, star, plus}
-use Rattle.reader.proofs.Places.{next-within}
+use Rattle.atoms.proofs.Places.{next-within}
 use Rattle.reader.proofs.Reading.{repeat-bad, repeat-none, repeat-on}
 use Rattle.reader.proofs.parts.repeat.Statement.{statement}
 use Rattle.reader.proofs.parts.repeat.Tie as tie

@@ -1,0 +1,3 @@
+-- What the functions promise that read a lettered atom.
+pub mod Classes
+pub mod Atoms
