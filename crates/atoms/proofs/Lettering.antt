@@ -2,7 +2,7 @@
 -- `withCredit` of the items from the place reached on, or broken. The credit is read once, for all of them. (By code:
 -- 46 is `.`, 61 `=`, 91 `[`, 92 `\`, 94 `^`; 48 to 57 are the digits.) Assumes nothing.
 use mathlib.Core.Path.{_≡_, refl, sym, ap, ap₂, _∙_, subst}
-use mathlib.Core.Bool.{Bool, true, false, _&&_, _||_, not, or-false, false≢true}
+use mathlib.Core.Bool.{Bool, true, false, _&&_, _||_, not, and-self-left, or-false, false≢true}
 use mathlib.Core.List.{List, [], _∷_}
 use Prim.Native.Nat.{ℕ, zero, suc, _+_, _-_, _≤_, _<_}
 use native.Mathlib.Omega.{arith}
@@ -14,16 +14,17 @@ use Rattle.basics.specs.Choice.{if_then_else_}
 use Rattle.basics.specs.Bytes.{isIn}
 use Rattle.basics.proofs.Tests.{by-test, and-parts}
 use Rattle.letters.specs.Alphabet.{isLetter}
-use Rattle.letters.specs.LetterSet.{hasLetter}
+use Rattle.letters.specs.LetterSet.{hasLetter, Some}
 use Rattle.letters.specs.declared.LetterSet.{LetterSet}
+use Rattle.letters.proofs.Sets.{none-same}
 use Rattle.pattern.specs.Parts.{Item, item, atom, inItems, holds, letter}
 use Rattle.pattern.specs.Grammar.{Read, read, broken, peek, special, Items, itemsFrom, withCredit, readClass, readLetter}
 use Rattle.atoms.specs.declared.Named.{Named}
 use Rattle.atoms.specs.declared.Lettered.{Lettered}
 use Rattle.atoms.specs.Atoms.{ReadsAtom}
-use Rattle.atoms.specs.Classes.{Told, ReadsItems, UpToCredit, IsNamed, ReadsNamed}
+use Rattle.atoms.specs.Classes.{Decides, ReadsItems, UpToCredit, IsNamed, ReadsNamed}
 use Rattle.atoms.proofs.Places.{byte-within, drop-first, second-byte}
-use Rattle.atoms.proofs.Members.{told-yes, told-no}
+use Rattle.atoms.proofs.Members.{decides-yes, decides-no}
 
 -- ---- the credit
 
@@ -41,10 +42,10 @@ creditOf t o is d s u =
     if t then (if leb 49 d && leb d 57 then read (letter (atom o is (d - 48))) u else broken)
     else read (letter (atom o is 0)) s
 
-module _ (s : List ℕ) (n : Named) (from : ℕ) (R : Read) (w : ReadsNamed s from R n) where
+module _ (s : List ℕ) (n : Named) (from : ℕ) (R : Read) (w : ReadsNamed s from R n) (hollow : Bool) (none : (hollow ≡ true → (c : ℕ) → hasLetter (n .set) c ≡ false) × (hollow ≡ false → Some (n .set))) where
   -- the letters and a credit, where the rules read those letters with that credit
   reads-atom : (at credit : ℕ) → credit ≤ 9 → n .at ≤ at → ((v : IsNamed s from R n) → (at ≤ length s) × (R ≡ read (letter (atom (v .others) (v .items) credit)) (drop at s)))
-      → ReadsAtom s from R record { good = n .good; at = at; set = n .set; reversed = n .reversed; credit = credit }
+      → ReadsAtom s from R record { good = n .good; at = at; set = n .set; hollow = hollow; reversed = n .reversed; credit = credit }
   reads-atom at credit h l k =
       by-test (n .good)
       (λ g.
@@ -56,7 +57,15 @@ module _ (s : List ℕ) (n : Named) (from : ℕ) (R : Read) (w : ReadsNamed s fr
         on = λ _. omega arith;
         within = λ _. k v .0;
         rest = λ _. ap (λ (X : Read). X .rest) e;
-        has = λ _. record { what = atom (v .others) (v .items) credit; part = ap (λ (X : Read). X .part) e; has = v .has; turned = v .turned; credit = refl; small = h };
+        has = λ _. record {
+          what = atom (v .others) (v .items) credit;
+          part = ap (λ (X : Read). X .part) e;
+          has = v .has;
+          hollow = none-same (n .set) (holds (atom (v .others) (v .items) credit)) (λ c. v .has c ∙ sym (and-self-left (isLetter c) _)) hollow (none .0) (none .1);
+          turned = v .turned;
+          credit = refl;
+          small = h;
+        };
       })
       (λ g. not-atom s from R _ g (ap (λ (X : Read). X .good) (w .no g)))
 
@@ -64,7 +73,7 @@ module _ (s : List ℕ) (n : Named) (from : ℕ) (R : Read) (w : ReadsNamed s fr
       → R ≡ creditOf t (v .others) (v .items) (peek (drop (n .at + 1) s)) (drop (n .at) s) (drop (n .at + 2) s)
   by-first v t e = v .read .same ∙ (λ i. creditOf (e i) (v .others) (v .items) (second-byte s (n .at) i) (drop (n .at) s) (drop-drop 2 (n .at) s i))
 
-  pub credit-none : (peek (drop (n .at) s) ≡ 61 → ⊥) → ReadsAtom s from R record { good = n .good; at = n .at; set = n .set; reversed = n .reversed; credit = 0 }
+  pub credit-none : (peek (drop (n .at) s) ≡ 61 → ⊥) → ReadsAtom s from R record { good = n .good; at = n .at; set = n .set; hollow = hollow; reversed = n .reversed; credit = 0 }
   credit-none d = reads-atom (n .at) 0 (omega arith) (omega arith) (λ v. (v .read .place .within, by-first v false (ne-eqb (peek (drop (n .at) s)) 61 d)))
 
   module _ (e : peek (drop (n .at) s) ≡ 61) (d : ℕ) (ed : d ≡ peek (drop (n .at + 1) s)) where
@@ -80,7 +89,7 @@ module _ (s : List ℕ) (n : Named) (from : ℕ) (R : Read) (w : ReadsNamed s fr
         not-atom s from R r g
         (by-test (n .good) (λ k. ap (λ (X : Read). X .good) (by-digit (w .yes k) false h)) (λ k. ap (λ (X : Read). X .good) (w .no k)))
 
-    pub credit-good : (leb 49 d && leb d 57) ≡ true → ReadsAtom s from R record { good = n .good; at = n .at + 2; set = n .set; reversed = n .reversed; credit = d - 48 }
+    pub credit-good : (leb 49 d && leb d 57) ≡ true → ReadsAtom s from R record { good = n .good; at = n .at + 2; set = n .set; hollow = hollow; reversed = n .reversed; credit = d - 48 }
     credit-good h =
         let k = digit-range d h in
         let z = byte-within s (n .at + 1) (d - 1) (sym ed ∙ omega arith) in
@@ -89,7 +98,7 @@ module _ (s : List ℕ) (n : Named) (from : ℕ) (R : Read) (w : ReadsNamed s fr
 -- ---- one letter, all letters
 
 pub one-named : (good : Bool) (code at : ℕ) (set : LetterSet) → ((c : ℕ) → hasLetter set c ≡ (isLetter c && (leb code c && leb c code))) → (s : List ℕ) (from : ℕ) (R : Read)
-    → Told good (UpToCredit s from at R false (item code code ∷ [])) (R ≡ broken) → ReadsNamed s from R record { good = good; at = at; set = set; reversed = false }
+    → Decides good (UpToCredit s from at R false (item code code ∷ [])) (R ≡ broken) → ReadsNamed s from R record { good = good; at = at; set = set; reversed = false }
 one-named good code at set h s from R w = record {
   yes = λ g. record {
     others = false;
@@ -104,7 +113,7 @@ one-named good code at set h s from R w = record {
 pub all-named : (at : ℕ) (none all : LetterSet) → ((c : ℕ) → hasLetter none c ≡ false) → ((c : ℕ) → hasLetter all c ≡ (isLetter c && not (hasLetter none c))) → (s : List ℕ) (from : ℕ) (R : Read)
     → UpToCredit s from at R true [] → ReadsNamed s from R record { good = true; at = at; set = all; reversed = false }
 all-named at none all h k s from R w =
-    told-yes record { others = true; items = []; read = w; has = λ c. k c ∙ ap (λ (t : Bool). isLetter c && not t) (h c); turned = refl }
+    decides-yes record { others = true; items = []; read = w; has = λ c. k c ∙ ap (λ (t : Bool). isLetter c && not t) (h c); turned = refl }
 
 -- ---- a class
 
@@ -169,8 +178,8 @@ letterBy x y z b s =
     else withCredit false (item b b ∷ []) s
 
 module _ (s : List ℕ) (at : ℕ) where
-  pub names-none : length s ≤ at → Told false (UpToCredit s at at (readLetter (drop at s)) false (item 0 0 ∷ [])) (readLetter (drop at s) ≡ broken)
-  names-none h = told-no (ap readLetter (drop-of-length-le s {i = at} h))
+  pub names-none : length s ≤ at → Decides false (UpToCredit s at at (readLetter (drop at s)) false (item 0 0 ∷ [])) (readLetter (drop at s) ≡ broken)
+  names-none h = decides-no (ap readLetter (drop-of-length-le s {i = at} h))
 
   module _ (h : at < length s) where
     by-tests : (x y z : Bool) → eqb (getD s at 0) 91 ≡ x → eqb (getD s at 0) 46 ≡ y → eqb (getD s at 0) 92 ≡ z → readLetter (drop at s) ≡ letterBy x y z (getD s at 0) (drop (at + 1) s)
@@ -190,7 +199,7 @@ module _ (s : List ℕ) (at : ℕ) where
 
       module _ (q : getD s at 0 ≡ 46 → ⊥) where
         pub names-escaped : getD s at 0 ≡ 92 → (c : ℕ) (good : Bool) → c ≡ peek (drop (at + 1) s) → good ≡ isIn c special
-            → Told good (UpToCredit s at (at + 2) (readLetter (drop at s)) false (item c c ∷ [])) (readLetter (drop at s) ≡ broken)
+            → Decides good (UpToCredit s at (at + 2) (readLetter (drop at s)) false (item c c ∷ [])) (readLetter (drop at s) ≡ broken)
         names-escaped e c good ec eg =
             let add : at + 1 + 1 ≡ at + 2 = omega arith in
             let two : drop 1 (drop (at + 1) s) ≡ drop (at + 2) s = drop-drop 1 (at + 1) s ∙ ap (λ (k : ℕ). drop k s) add in
@@ -212,7 +221,7 @@ module _ (s : List ℕ) (at : ℕ) where
             special-not-zero (suc c) g = omega arith
 
         pub names-plain : (getD s at 0 ≡ 92 → ⊥) → (out : Bool) → out ≡ isIn (getD s at 0) special
-            → Told (not out) (UpToCredit s at (at + 1) (readLetter (drop at s)) false (item (getD s at 0) (getD s at 0) ∷ [])) (readLetter (drop at s) ≡ broken)
+            → Decides (not out) (UpToCredit s at (at + 1) (readLetter (drop at s)) false (item (getD s at 0) (getD s at 0) ∷ [])) (readLetter (drop at s) ≡ broken)
         names-plain d out en =
             let b = getD s at 0 in
             let is : (t : Bool) → out ≡ t → readLetter (drop at s) ≡ (if t then broken else withCredit false (item b b ∷ []) (drop (at + 1) s))

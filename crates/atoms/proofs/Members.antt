@@ -2,6 +2,7 @@
 -- left to read with one item more in the set is what was left to read before it. (By code: 45 is `-`, 92 `\`, 93 `]`.)
 -- Assumes nothing.
 use mathlib.Core.Path.{_≡_, refl, sym, ap, ap₂, _∙_, subst}
+use mathlib.Core.Logic.{inl, inr, ⊎-elim}
 use mathlib.Core.Bool.{Bool, true, false, _&&_, _||_, not, or-assoc, or-false, and-false, false≢true, true≢false}
 use mathlib.Core.List.{List, [], _∷_, _++_}
 use Prim.Native.Nat.{ℕ, zero, suc, _+_, _-_, _≤_, _<_}
@@ -9,10 +10,11 @@ use native.Mathlib.Omega.{arith}
 use lib.Dec.{eqb, leb, ltb}
 use lib.ListN.{length, getD, drop, drop-of-length-le}
 use lib.Seq.{drop-drop}
-use borrow.Author.Tests.{eq-eqb, ne-eqb, not-true, not-false}
+use types.Run.{OneOf}
+use borrow.Author.Tests.{eqb-true, eq-eqb, ne-eqb, not-true, not-false}
 use Rattle.basics.specs.Choice.{if_then_else_}
 use Rattle.basics.specs.Bytes.{isIn}
-use Rattle.basics.proofs.Tests.{by-test, and-parts}
+use Rattle.basics.proofs.Tests.{by-test, by-equal, and-parts, or-cases}
 use Rattle.letters.specs.Alphabet.{isLetter}
 use Rattle.letters.specs.LetterSet.{hasLetter}
 use Rattle.letters.specs.declared.LetterSet.{LetterSet}
@@ -22,26 +24,44 @@ use Rattle.pattern.specs.Refusals.{someReversed}
 use Rattle.atoms.specs.declared.ClassLetter.{ClassLetter}
 use Rattle.atoms.specs.declared.OneItem.{OneItem}
 use Rattle.atoms.specs.declared.Named.{Named}
-use Rattle.atoms.specs.Classes.{Told, IsClassLetter, ReadsClassLetter, noMore, OneMore, NoMore, NoItem, ReadsItem, IsItems, ReadsItems}
+use Rattle.atoms.specs.Classes.{Decides, IsClassLetter, ReadsClassLetter, noMore, OneMore, NoMore, NoItem, ReadsItem, IsItems, ReadsItems}
 use Rattle.atoms.proofs.Places.{byte-within, drop-first, drop-suc, peek-drop}
 
 -- ---- a flag that is known
 
-pub told-yes : {Yes No : Type 0} → Yes → Told true Yes No
-told-yes y = record { yes = λ e. y; no = λ e. absurd (true≢false e) }
+pub decides-yes : {Yes No : Type 0} → Yes → Decides true Yes No
+decides-yes y = record { yes = λ e. y; no = λ e. absurd (true≢false e) }
 
-pub told-no : {Yes No : Type 0} → No → Told false Yes No
-told-no n = record { yes = λ e. absurd (false≢true e); no = λ e. n }
+pub decides-no : {Yes No : Type 0} → No → Decides false Yes No
+decides-no n = record { yes = λ e. absurd (false≢true e); no = λ e. n }
 
--- ---- one of a list of bytes, as a chain of tests
+-- ---- one of a list of bytes, by the arms of a match: single bytes, and ranges of them
 
-abbrev chained : ℕ → Bool → List ℕ → Bool
-chained b t [] = t
-chained b t (x ∷ xs) = chained b (t || eqb b x) xs
+-- of the n numbers from k on that are not among the keys, are all in xs (t is true), or none (false)
+abbrev pub allSame : ℕ → ℕ → List ℕ → List ℕ → Bool → Bool
+allSame zero k keys xs t = true
+allSame (suc n) k keys xs t = (isIn k keys || (if t then isIn k xs else not (isIn k xs))) && allSame n (suc k) keys xs t
 
-pub is-chain : (b : ℕ) (t : Bool) (xs : List ℕ) → chained b t xs ≡ (t || isIn b xs)
-is-chain b t [] = sym (or-false t)
-is-chain b t (x ∷ xs) = is-chain b (t || eqb b x) xs ∙ or-assoc t (eqb b x) (isIn b xs)
+pub in-range : (keys xs : List ℕ) (t : Bool) (n k b : ℕ) → allSame n k keys xs t ≡ true → (OneOf keys b → ⊥) → k ≤ b → b < k + n → t ≡ isIn b xs
+in-range keys xs t zero k b h out l m = absurd (omega arith)
+in-range keys xs t (suc n) k b h out l m =
+    let one = isIn k keys || (if t then isIn k xs else not (isIn k xs)) in
+    let p = and-parts one (allSame n (suc k) keys xs t) h in
+    let more = in-range keys xs t n (suc k) b (p .1) out in
+    by-equal k b
+    (λ z.
+    ⊎-elim (λ e. absurd (out (one-of keys b (ap (λ (x : ℕ). isIn x keys) (sym z) ∙ e)))) (λ e. is t (isIn k xs) e ∙ ap (λ (x : ℕ). isIn x xs) z)
+    (or-cases (isIn k keys) (if t then isIn k xs else not (isIn k xs)) (p .0)))
+    (λ d. more (omega arith) (omega arith))
+  where
+    is : (t u : Bool) → (if t then u else not u) ≡ true → t ≡ u
+    is true u e = sym e
+    is false u e = sym (not-true u e)
+
+    one-of : (ks : List ℕ) (b : ℕ) → isIn b ks ≡ true → OneOf ks b
+    one-of [] b e = absurd (false≢true e)
+    one-of (k ∷ []) b e = eqb-true b k (sym (or-false (eqb b k)) ∙ e)
+    one-of (k ∷ (l ∷ ks)) b e = let more = one-of (l ∷ ks) b in ⊎-elim (λ z. inl (eqb-true b k z)) (λ z. inr (more z)) (or-cases (eqb b k) (isIn b (l ∷ ks)) e)
 
 -- ---- a class letter
 
@@ -51,7 +71,7 @@ letterOf t b c = if t then (if isIn c classSpecial then suc c else 0) else if is
 
 module _ (s : List ℕ) (at : ℕ) where
   pub letter-none : length s ≤ at → ReadsClassLetter s at record { good = false; code = 0; at = at }
-  letter-none h = told-no (ap classLetter (drop-of-length-le s {i = at} h))
+  letter-none h = decides-no (ap classLetter (drop-of-length-le s {i = at} h))
 
   module _ (h : at < length s) (t : Bool) (e : eqb (getD s at 0) 92 ≡ t) where
     letter-is : classLetter (drop at s) ≡ letterOf t (getD s at 0) (peek (drop (at + 1) s))
@@ -118,14 +138,14 @@ module _ (s : List ℕ) (at : ℕ) where
   pub item-end : peek (drop at s) ≡ 93 → ReadsItem s at (noMore true (at + 1))
   item-end e =
       let w = byte-within s at 92 e in
-      told-no (told-yes record {
+      decides-no (decides-yes record {
         step = λ f is. end-step (close-none e) f is ∙ ap (λ (t : Bool). itemsRead (t && not (eqb (length is) 0)) is (drop (at + 1) s)) (eq-eqb (peek (drop at s)) 93 e);
         place = record { on = omega arith; within = omega arith };
       })
 
   pub item-none : (peek (drop at s) ≡ 93 → ⊥) → classLetter (drop at s) ≡ 0 → ReadsItem s at (noMore false at)
   item-none d z =
-      told-no (told-no (λ f is.
+      decides-no (decides-no (λ f is.
       ap (λ (X : Items). X .good) (end-step z f is) ∙ ap (λ (t : Bool). t && not (eqb (length is) 0)) (ne-eqb (peek (drop at s)) 93 d)))
 
   module _ (a : ClassLetter) (w : IsClassLetter s at a) where
@@ -140,7 +160,7 @@ module _ (s : List ℕ) (at : ℕ) where
 
     pub item-one : (peek (drop (a .at) s) ≡ 45 → ⊥) → ReadsItem s at record { more = true; closed = false; lo = a .code; hi = a .code; at = a .at }
     item-one d =
-        told-yes record {
+        decides-yes record {
           step = λ f is. letter-step f is ∙ rw (not-zero (a .code), ne-eqb (peek (drop (a .at) s)) 45 d, one-less (a .code));
           place = w .place;
         }
@@ -161,7 +181,7 @@ module _ (s : List ℕ) (at : ℕ) where
                 ∙ rw (not-zero (a .code), eq-eqb (peek t) 45 e, one-less (a .code), rest, drop-drop 1 (a .at) s, x .code, not-zero (b .code), one-less (b .code));
             place = record { on = omega arith; within = m .within };
           };
-      no = λ g. told-no (λ f is.
+      no = λ g. decides-no (λ f is.
           ap (λ (X : Items). X .good) (letter-step f is)
           ∙ rw (not-zero (a .code), eq-eqb (peek (drop (a .at) s)) 45 e, drop-drop 1 (a .at) s, v .no g));
     }
@@ -223,7 +243,7 @@ module _ (s : List ℕ) (at : ℕ) (set : LetterSet) (any reversed : Bool) (i : 
         no = v .no;
       }
 
-  pub read-end : Told (i .closed) (NoMore s at i) (NoItem s at)
+  pub read-end : Decides (i .closed) (NoMore s at i) (NoItem s at)
       → ReadsOn s at set any reversed record { good = i .closed && any; at = i .at; set = set; reversed = reversed }
   read-end e zero is l w = absurd (omega arith)
   read-end e (suc f) is l w = record {

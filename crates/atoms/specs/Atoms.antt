@@ -1,9 +1,10 @@
 -- What reading a lettered atom gives.
 use mathlib.Core.Path.{_≡_}
-use mathlib.Core.Bool.{true}
+use mathlib.Core.Bool.{true, not}
 use mathlib.Core.List.{List}
 use Prim.Native.Nat.{ℕ, _<_, _≤_}
 use lib.ListN.{length, drop}
+use Rattle.letters.specs.Alphabet.{someLetter}
 use Rattle.letters.specs.LetterSet.{hasLetter}
 use Rattle.pattern.specs.Parts.{Atom, holds, Part, letter}
 use Rattle.pattern.specs.Grammar.{Read}
@@ -15,6 +16,7 @@ pub record IsAtom (p : Part) (r : Lettered) : Type 0 where
   pub what : Atom
   pub part : p ≡ letter what
   pub has : (c : ℕ) → hasLetter (r .set) c ≡ holds what c
+  pub hollow : r .hollow ≡ not (someLetter (holds what))
   pub turned : r .reversed ≡ someReversed (what .items)
   pub credit : r .credit ≡ what .credit
   pub small : r .credit ≤ 9

@@ -15,12 +15,12 @@ use Rattle.atoms.specs.declared.OneItem.{OneItem}
 use Rattle.atoms.specs.declared.Named.{Named}
 
 -- what a flag of a result says: the one thing or the other
-pub record Told (flag : Bool) (Yes No : Type 0) : Type 0 where
+pub record Decides (flag : Bool) (Yes No : Type 0) : Type 0 where
   pub yes : flag ≡ true → Yes
   pub no : flag ≡ false → No
 
 -- a place of s past another
-pub record Onward (s : List ℕ) (from to : ℕ) : Type 0 where
+pub record Past (s : List ℕ) (from to : ℕ) : Type 0 where
   pub on : from < to
   pub within : to ≤ length s
 
@@ -29,10 +29,10 @@ pub record Onward (s : List ℕ) (from to : ℕ) : Type 0 where
 pub record IsClassLetter (s : List ℕ) (at : ℕ) (r : ClassLetter) : Type 0 where
   pub code : classLetter (drop at s) ≡ suc (r .code)
   pub rest : drop (classLetterLong (drop at s)) (drop at s) ≡ drop (r .at) s
-  pub place : Onward s at (r .at)
+  pub place : Past s at (r .at)
 
 abbrev pub ReadsClassLetter : List ℕ → ℕ → ClassLetter → Type 0
-ReadsClassLetter s at r = Told (r .good) (IsClassLetter s at r) (classLetter (drop at s) ≡ 0)
+ReadsClassLetter s at r = Decides (r .good) (IsClassLetter s at r) (classLetter (drop at s) ≡ 0)
 
 -- ---- an item: whatever items there are so far, the rules read one more, or find the end, or nothing good
 
@@ -41,17 +41,17 @@ noMore closed at = record { more = false; closed = closed; lo = 0; hi = 0; at = 
 
 pub record OneMore (s : List ℕ) (at : ℕ) (r : OneItem) : Type 0 where
   pub step : (f : ℕ) (is : List Item) → itemsFrom (suc f) is (drop at s) ≡ itemsFrom f (is ++ (item (r .lo) (r .hi) ∷ [])) (drop (r .at) s)
-  pub place : Onward s at (r .at)
+  pub place : Past s at (r .at)
 
 pub record NoMore (s : List ℕ) (at : ℕ) (r : OneItem) : Type 0 where
   pub step : (f : ℕ) (is : List Item) → itemsFrom (suc f) is (drop at s) ≡ itemsRead (not (eqb (length is) 0)) is (drop (r .at) s)
-  pub place : Onward s at (r .at)
+  pub place : Past s at (r .at)
 
 abbrev pub NoItem : List ℕ → ℕ → Type 0
 NoItem s at = (f : ℕ) (is : List Item) → itemsFrom (suc f) is (drop at s) .good ≡ false
 
 abbrev pub ReadsItem : List ℕ → ℕ → OneItem → Type 0
-ReadsItem s at r = Told (r .more) (OneMore s at r) (Told (r .closed) (NoMore s at r) (NoItem s at))
+ReadsItem s at r = Decides (r .more) (OneMore s at r) (Decides (r .closed) (NoMore s at r) (NoItem s at))
 
 -- ---- all items of a class
 
@@ -60,16 +60,16 @@ pub record IsItems (s : List ℕ) (at : ℕ) (X : Items) (r : Named) : Type 0 wh
   pub rest : X .rest ≡ drop (r .at) s
   pub has : (c : ℕ) → hasLetter (r .set) c ≡ (isLetter c && inItems c (X .items))
   pub turned : r .reversed ≡ someReversed (X .items)
-  pub place : Onward s at (r .at)
+  pub place : Past s at (r .at)
 
 abbrev pub ReadsItems : List ℕ → ℕ → Items → Named → Type 0
-ReadsItems s at X r = Told (r .good) (IsItems s at X r) (X .good ≡ false)
+ReadsItems s at X r = Decides (r .good) (IsItems s at X r) (X .good ≡ false)
 
 -- ---- the letters of an atom, where R is what the rules read from the place `from` on: all but the credit is read
 
 pub record UpToCredit (s : List ℕ) (from at : ℕ) (R : Read) (others : Bool) (items : List Item) : Type 0 where
   pub same : R ≡ withCredit others items (drop at s)
-  pub place : Onward s from at
+  pub place : Past s from at
 
 pub record IsNamed (s : List ℕ) (from : ℕ) (R : Read) (r : Named) : Type 0 where
   pub others : Bool
@@ -79,4 +79,4 @@ pub record IsNamed (s : List ℕ) (from : ℕ) (R : Read) (r : Named) : Type 0 w
   pub turned : r .reversed ≡ someReversed items
 
 abbrev pub ReadsNamed : List ℕ → ℕ → Read → Named → Type 0
-ReadsNamed s from R r = Told (r .good) (IsNamed s from R r) (R ≡ broken)
+ReadsNamed s from R r = Decides (r .good) (IsNamed s from R r) (R ≡ broken)

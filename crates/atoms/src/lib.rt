@@ -1,4 +1,5 @@
-// Lettered atoms.
+// Lettered atoms: one letter, `.` or a class, and the credit after it. Every function takes any bytes and any place, and past
+// the end of the text there is no atom.
 use letters::LetterSet;
 ghost use mathlib.Core.Path.{_≡_};
 ghost use mathlib.Core.Bool.{true, false, _&&_};
@@ -10,14 +11,15 @@ ghost use Rattle.basics.specs.Bytes.{isIn};
 ghost use Rattle.pattern.specs.Parts.{item as anItem};
 ghost use Rattle.pattern.specs.Grammar.{Read, broken, peek, special as specialBytes, classSpecial, itemsFrom, readClass, readLetter};
 ghost use Rattle.atoms.specs.Atoms.{ReadsAtom};
-ghost use Rattle.atoms.specs.Classes.{Told, ReadsClassLetter, noMore, ReadsItem, ReadsItems, UpToCredit, ReadsNamed};
+ghost use Rattle.atoms.specs.Classes.{Decides, ReadsClassLetter, noMore, ReadsItem, ReadsItems, UpToCredit, ReadsNamed};
 
-// A lettered atom that was read: where it ends, its letters, its credit, and whether a range of it is reversed. Where `good` is
-// false there is none, and the rest means nothing.
+// A lettered atom that was read: where it ends, its letters, whether it has none, whether a range of it is reversed, and its
+// credit. Where `good` is false there is none, and the rest means nothing.
 pub struct Lettered {
     pub good: bool,
     pub at: usize,
     pub set: LetterSet,
+    pub hollow: bool,
     pub reversed: bool,
     pub credit: u8,
 }
@@ -30,60 +32,19 @@ pub fn atom(s: &[u8], at: usize) -> Lettered
     with_credit(s, n)
 }
 
+// The byte at a place, 0 where s has ended.
+pub fn byte_at(s: &[u8], at: usize) -> u8
+    ensures { λ r. ⌜ r ≡ peek (drop at (now (s .entry))) ⌝ }
+{
+    if at < s.len() { s[at] } else { 0 }
+}
+
 // The letters of an atom, read up to its credit: the place after them, and whether a range is reversed.
 struct Named {
     good: bool,
     at: usize,
     set: LetterSet,
     reversed: bool,
-}
-
-// Letters that were read, with the credit after them. Without one the credit is 0.
-fn with_credit(s: &[u8], n: Named) -> Lettered
-    ensures { λ r. ⌜ ((from : ℕ) (R : Read) → ReadsNamed (now (s .entry)) from R n → ReadsAtom (now (s .entry)) from R r) ⌝ }
-{
-    let at = n.at;
-    let set = n.set;
-    if byte_at(s, at) != b'=' {
-        return Lettered {
-            good: n.good,
-            at: at,
-            set: set,
-            reversed: n.reversed,
-            credit: 0,
-        };
-    }
-    let d = byte_at(s, at + 1);
-    if !credit_digit(d) {
-        return no_atom();
-    }
-    Lettered {
-        good: n.good,
-        at: at + 2,
-        set: set,
-        reversed: n.reversed,
-        credit: d - b'0',
-    }
-}
-
-// Is a byte a digit that a credit can have.
-fn credit_digit(d: u8) -> bool
-    ensures { λ r. ⌜ r ≡ (leb 49 d && leb d 57) ⌝ }
-{
-    (b'1' <= d) & (d <= b'9')
-}
-
-// No lettered atom.
-fn no_atom() -> Lettered
-    ensures { λ r. ⌜ r .good ≡ false ⌝ }
-{
-    Lettered {
-        good: false,
-        at: 0,
-        set: letters::empty(),
-        reversed: false,
-        credit: 0,
-    }
 }
 
 // The letters of the atom that begins at a place.
@@ -109,25 +70,12 @@ fn names(s: &[u8], at: usize) -> Named
 
 // One letter, read up to a place.
 fn one(good: bool, code: u8, at: usize) -> Named
-    ensures { λ r. ⌜ ((s : List ℕ) (from : ℕ) (R : Read) → Told good (UpToCredit s from at R false (anItem code code ∷ [])) (R ≡ broken) → ReadsNamed s from R r) ⌝ }
+    ensures { λ r. ⌜ ((s : List ℕ) (from : ℕ) (R : Read) → Decides good (UpToCredit s from at R false (anItem code code ∷ [])) (R ≡ broken) → ReadsNamed s from R r) ⌝ }
 {
     Named {
         good: good,
         at: at,
-        set: letters::range(code, code),
-        reversed: false,
-    }
-}
-
-// All letters, read up to a place.
-fn every(at: usize) -> Named
-    ensures { λ r. ⌜ ((s : List ℕ) (from : ℕ) (R : Read) → UpToCredit s from at R true [] → ReadsNamed s from R r) ⌝ }
-{
-    let none = letters::empty();
-    Named {
-        good: true,
-        at: at,
-        set: letters::complement(none),
+        set: letters::only(code),
         reversed: false,
     }
 }
@@ -264,37 +212,101 @@ fn class_letter(s: &[u8], at: usize) -> ClassLetter
     }
 }
 
-// Is a byte special outside of classes.
-fn special(b: u8) -> bool
-    ensures { λ r. ⌜ r ≡ isIn b specialBytes ⌝ }
-{
-    (b == b'|')
-        | (b == b'*')
-        | (b == b'+')
-        | (b == b'?')
-        | (b == b'(')
-        | (b == b')')
-        | (b == b'[')
-        | (b == b']')
-        | (b == b'{')
-        | (b == b'}')
-        | (b == b'^')
-        | (b == b'$')
-        | (b == b'.')
-        | (b == b'\\')
-        | (b == b'=')
-}
-
 // Is a byte special in a class.
 fn special_in_class(b: u8) -> bool
     ensures { λ r. ⌜ r ≡ isIn b classSpecial ⌝ }
 {
-    (b == b'[') | (b == b']') | (b == b'\\') | (b == b'^') | (b == b'-')
+    match b {
+        b'[' | b']' | b'\\' | b'^' | b'-' => true,
+        _ => false,
+    }
 }
 
-// The byte at a place, 0 where s has ended.
-pub fn byte_at(s: &[u8], at: usize) -> u8
-    ensures { λ r. ⌜ r ≡ peek (drop at (now (s .entry))) ⌝ }
+// All letters, read up to a place.
+fn every(at: usize) -> Named
+    ensures { λ r. ⌜ ((s : List ℕ) (from : ℕ) (R : Read) → UpToCredit s from at R true [] → ReadsNamed s from R r) ⌝ }
 {
-    if at < s.len() { s[at] } else { 0 }
+    let none = letters::empty();
+    Named {
+        good: true,
+        at: at,
+        set: letters::complement(none),
+        reversed: false,
+    }
+}
+
+// Is a byte special outside of classes.
+fn special(b: u8) -> bool
+    ensures { λ r. ⌜ r ≡ isIn b specialBytes ⌝ }
+{
+    match b {
+        b'|'
+        | b'*'
+        | b'+'
+        | b'?'
+        | b'('
+        | b')'
+        | b'['
+        | b']'
+        | b'{'
+        | b'}'
+        | b'^'
+        | b'$'
+        | b'.'
+        | b'\\'
+        | b'=' => true,
+        _ => false,
+    }
+}
+
+// Letters that were read, with the credit after them. Without one the credit is 0.
+fn with_credit(s: &[u8], n: Named) -> Lettered
+    ensures { λ r. ⌜ ((from : ℕ) (R : Read) → ReadsNamed (now (s .entry)) from R n → ReadsAtom (now (s .entry)) from R r) ⌝ }
+{
+    let at = n.at;
+    let set = n.set;
+    let hollow = letters::is_empty(set);
+    if byte_at(s, at) != b'=' {
+        return Lettered {
+            good: n.good,
+            at: at,
+            set: set,
+            hollow: hollow,
+            reversed: n.reversed,
+            credit: 0,
+        };
+    }
+    let d = byte_at(s, at + 1);
+    if !credit_digit(d) {
+        return no_atom();
+    }
+    Lettered {
+        good: n.good,
+        at: at + 2,
+        set: set,
+        hollow: hollow,
+        reversed: n.reversed,
+        credit: d - b'0',
+    }
+}
+
+// Is a byte a digit that a credit can have.
+fn credit_digit(d: u8) -> bool
+    ensures { λ r. ⌜ r ≡ (leb 49 d && leb d 57) ⌝ }
+{
+    (b'1' <= d) & (d <= b'9')
+}
+
+// No lettered atom.
+fn no_atom() -> Lettered
+    ensures { λ r. ⌜ r .good ≡ false ⌝ }
+{
+    Lettered {
+        good: false,
+        at: 0,
+        set: letters::empty(),
+        hollow: true,
+        reversed: false,
+        credit: 0,
+    }
 }

@@ -146,7 +146,7 @@ lowest-same s f same t l =
     neither-less t m (λ h. true≢false (sym (p .1) ∙ lowest-none f some t (p .0) h))
     (λ h. true≢false (sym (same m ∙ and-of (isLetter m) (f m) (q .0) (q .1)) ∙ l .none m h))
 
--- is_none's answer r
+-- is_empty's answer r
 pub none-same : (s : LetterSet) (f : ℕ → Bool) → ((c : ℕ) → hasLetter s c ≡ (isLetter c && f c)) → (r : Bool) → (r ≡ true → (c : ℕ) → hasLetter s c ≡ false)
     → (r ≡ false → Some s) → r ≡ not (someLetter f)
 none-same s f same true empty some =
