@@ -103,7 +103,7 @@ pub fn range(a: u8, b: u8) -> LetterSet
     }
 }
 
-// The letter alone: no letter where the code is none.
+// The letter alone, and the empty set for a code that is no letter.
 pub fn only(code: u8) -> LetterSet
     ensures { λ r. ⌜ ((c : ℕ) → hasLetter r c ≡ (isLetter c && (leb code c && leb c code))) ⌝ }
 {

@@ -1,5 +1,5 @@
 -- The code is no letter, or stands in one of the two words, where it is the only one. Assumes nothing.
-use mathlib.Core.Path.{_≡_, sym, ap, ap₂, _∙_}
+use mathlib.Core.Path.{_≡_, sym, ap, _∙_}
 use mathlib.Core.Bool.{Bool, false, not, _&&_, and-false}
 use Prim.Native.Nat.{ℕ, _+_, _-_, _≤_}
 use native.Mathlib.Omega.{arith}
@@ -65,7 +65,7 @@ within c =
     bounds (c .before .before .args .code) (letter .result) (letter .ensures) (c .if1 .left)
 
 sub-only : tie.Need-sub-only
-sub-only c = within (c .before) .0
+sub-only c = let b = within (c .before) in omega arith
 
 cast-only : tie.Need-cast-only
 cast-only c = search needs
