@@ -1,7 +1,8 @@
-pub mod Sets
-pub mod Reading
-pub mod Scanning
-pub mod Describing
-pub mod Steps
+pub mod Shapes
+pub mod Linking
+pub mod Storing
+pub mod Joining
+pub mod Parsing
+pub mod Folding
 pub mod Building
 pub mod Refusals

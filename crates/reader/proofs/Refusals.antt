@@ -18,7 +18,7 @@ use Rattle.graph.proofs.Bounds.{none-bounded}
 use Rattle.pattern.specs.Grammar.{readPattern, isPattern, patternPart}
 use Rattle.pattern.specs.Positions.{atoms, positions, patternGraph}
 use Rattle.pattern.specs.Refusals.{anyReversed, anyEmpty, patternRefusal, builtGraph}
-use Rattle.reader.specs.Rows.{Parses}
+use Rattle.reader.specs.Parsing.{ParsesAll}
 use Rattle.reader.specs.Read.{Reads, Refuses}
 use Rattle.reader.specs.declared.parts.Parsed.{Parsed}
 use Rattle.reader.specs.declared.ReadPattern.{ReadPattern}
@@ -61,25 +61,25 @@ module _ (s : List ℕ) where
   -- the test number n applies and none before it
   pub refuses : (n : ℕ) (r : ReadPattern) → Passes n → getD tests n false ≡ true → Refuses (3 + n) r → Reads s r
   refuses n r h e w =
-      let fault : patternRefusal s ≡ 3 + n = first-is 3 tests n h e in
+      let is : patternRefusal s ≡ 3 + n = first-is 3 tests n h e in
       let none : builtGraph s ≡ noGraph = if-no (patternGraph s) noGraph (eqb (patternRefusal s) 0) (ne-eqb (patternRefusal s) 0 (λ z. omega arith)) in
-      record { refusal = w .refusal ∙ sym fault; graph = w .graph ∙ sym none; bounded = subst Bounded (sym (w .graph)) none-bounded }
+      record { refusal = w .refusal ∙ sym is; graph = w .graph ∙ sym none; bounded = subst Bounded (sym (w .graph)) none-bounded }
 
   -- none applies
   pub accepts : (r : ReadPattern) → Passes 6 → r .refusal ≡ 0 → graphOfBuilt (r .built) ≡ patternGraph s → Bounded (patternGraph s) → Reads s r
   accepts r h z same bounds =
-      let fault = first-none 3 tests h in
+      let is = first-none 3 tests h in
       record {
-        refusal = z ∙ sym fault;
-        graph = same ∙ sym (if-yes (patternGraph s) noGraph (eqb (patternRefusal s) 0) (eq-eqb (patternRefusal s) 0 fault));
+        refusal = z ∙ sym is;
+        graph = same ∙ sym (if-yes (patternGraph s) noGraph (eqb (patternRefusal s) 0) (eq-eqb (patternRefusal s) 0 is));
         bounded = subst Bounded (sym same) bounds;
       }
 
 -- ---- the tests as the code has them
 
 -- what was read is good and ends with the text
-pub whole-pattern : (s : List ℕ) (p : Parsed) → Parses s p → (p .good && eqb (p .at) (length s)) ≡ isPattern s
-whole-pattern s p r =
+pub whole-pattern : (s rows sets credits : List ℕ) (p : Parsed) → ParsesAll s rows sets credits p → (p .good && eqb (p .at) (length s)) ≡ isPattern s
+whole-pattern s rows sets credits p r =
     let rest = readPattern s .rest in
     and-when (p .good) (eqb (p .at) (length s)) (eqb (length rest) 0)
     (λ g.

@@ -1,4 +1,5 @@
 -- What the functions of the reader promise.
 pub mod Rows
-pub mod Scan
+pub mod Tables
+pub mod Parsing
 pub mod Read

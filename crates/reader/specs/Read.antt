@@ -6,12 +6,10 @@ use Rattle.graph.specs.Graph.{Bounded, noGraph}
 use Rattle.graph.specs.Built.{graphOfBuilt}
 use Rattle.graph.specs.declared.Built.{Built}
 use Rattle.pattern.specs.Parts.{Part}
-use Rattle.pattern.specs.Positions.{atoms, positions, graphOf}
+use Rattle.pattern.specs.Positions.{positions, graphOf}
 use Rattle.pattern.specs.Refusals.{patternRefusal, builtGraph}
-use Rattle.reader.specs.Rows.{Whole}
-use Rattle.reader.specs.Scan.{Describes}
-use Rattle.reader.specs.declared.parts.Parsed.{Parsed}
-use Rattle.reader.specs.declared.scan.Scanned.{Scanned}
+use Rattle.reader.specs.Parsing.{shapeOf, Whole}
+use Rattle.reader.specs.declared.parts.ParsedRows.{ParsedRows}
 use Rattle.reader.specs.declared.ReadPattern.{ReadPattern}
 
 pub record Reads (s : List ℕ) (r : ReadPattern) : Type 0 where
@@ -24,6 +22,6 @@ pub record Refuses (k : ℕ) (r : ReadPattern) : Type 0 where
   pub refusal : r .refusal ≡ k
   pub graph : graphOfBuilt (r .built) ≡ noGraph
 
--- of the links p and the atoms f of any part of up to 60 positions, its graph is built
-abbrev pub Builds : Parsed → Scanned → Built → Type 0
-Builds p f r = (x : Part) → Whole x p → Describes (atoms x) f → positions x ≤ 60 → graphOfBuilt r ≡ graphOf x
+-- of the rows and the tables of any part of up to 60 positions, its graph is built
+abbrev pub Builds : ParsedRows → List ℕ → List ℕ → Built → Type 0
+Builds p sets credits r = (x : Part) → Whole (shapeOf x) (p .rows) sets credits (p .part) → positions x ≤ 60 → graphOfBuilt r ≡ graphOf x

@@ -1,10 +1,13 @@
 // Reading a pattern: its refusal, or the built pattern. `read` takes any bytes.
 mod parts;
-mod scan;
+mod rows;
 
 use graph::Built;
-use parts::Parsed;
-use scan::Scanned;
+use letters::table;
+use parts::ParsedRows;
+ghost use mathlib.Core.Path.{_≡_};
+ghost use lib.ListN.{length};
+ghost use Rattle.letters.specs.Table.{tableSize};
 ghost use Rattle.reader.specs.Read.{Reads, Refuses, Builds};
 
 // A pattern that was read: the number of the first refusal, from 3 to 8, that applies to it, and an empty built pattern; or 0,
@@ -12,6 +15,38 @@ ghost use Rattle.reader.specs.Read.{Reads, Refuses, Builds};
 pub struct ReadPattern {
     pub refusal: u8,
     pub built: Built,
+}
+
+// The first refusal that applies to s, or the pattern that it is, built.
+pub fn read(s: &[u8]) -> ReadPattern
+    ensures { λ r. ⌜ Reads (now (s .entry)) r ⌝ }
+{
+    if s.len() > 512 {
+        return refused(3);
+    }
+    if !letters::all_letters(s) {
+        return refused(4);
+    }
+    let mut sets = table::empty();
+    let mut credits = [0u8; 61];
+    let p = parts::parse(s, &mut sets, &mut credits);
+    let part = p.part;
+    if !(part.good & (part.at == s.len())) {
+        return refused(5);
+    }
+    if part.reversed {
+        return refused(6);
+    }
+    if part.hollow {
+        return refused(7);
+    }
+    if part.n > 60 {
+        return refused(8);
+    }
+    ReadPattern {
+        refusal: 0,
+        built: built(p, &sets, credits),
+    }
 }
 
 // A refusal: nothing is built.
@@ -35,55 +70,21 @@ fn refused(refusal: u8) -> ReadPattern
     }
 }
 
-// The built pattern, of its links and its lettered atoms. The state 0, before any letter, gets its row, the firsts, and is a
-// last where the pattern can be empty.
-fn built(p: Parsed, f: Scanned) -> Built
-    ensures { λ r. ⌜ Builds p f r ⌝ }
+// The built pattern, of its links and of the tables. The state 0, before any letter, gets its row, the firsts, and is a last where
+// the pattern can be empty.
+fn built(p: ParsedRows, sets: &[u64], credits: [u8; 61]) -> Built
+    requires { ⌜ length (now sets) ≡ tableSize ⌝ }
+    ensures { λ r. ⌜ Builds p (now (sets .entry)) credits r ⌝ }
 {
-    let mut rows = p.follow;
-    rows[0] = p.firsts;
-    let mut lasts = p.lasts;
-    if p.empty {
-        lasts = bits::with(lasts, 0);
-    }
-    let sets = f.letters;
-    let credits = f.credits;
+    let part = p.part;
+    let mut follow = p.rows;
+    follow[0] = part.firsts;
+    let letters = table::sets(sets);
     Built {
-        positions: p.n,
-        follow: rows,
-        lasts: lasts,
-        letters: sets,
+        positions: part.n,
+        follow: follow,
+        lasts: bits::with_if(part.lasts, 0, part.empty),
+        letters: letters,
         credits: credits,
-    }
-}
-
-// The first refusal that applies to s, or the pattern that it is, built.
-pub fn read(s: &[u8]) -> ReadPattern
-    ensures { λ r. ⌜ Reads (now (s .entry)) r ⌝ }
-{
-    if s.len() > 512 {
-        return refused(3);
-    }
-    if !letters::all_letters(s) {
-        return refused(4);
-    }
-    let p = parts::parse(s);
-    if !(p.good & (p.at == s.len())) {
-        return refused(5);
-    }
-    let f = scan::scan(s);
-    if f.reversed {
-        return refused(6);
-    }
-    if f.hollow {
-        return refused(7);
-    }
-    if p.n > 60 {
-        return refused(8);
-    }
-    let b = built(p, f);
-    ReadPattern {
-        refusal: 0,
-        built: b,
     }
 }

@@ -1,27 +1,276 @@
-// Patterns, branches and pieces: three functions that call each other, as those of the grammar do. Each takes what was read
-// before it and gives that with its own part added, so that there is one value, whose rows grow from left to right.
-// The other functions make one value of one or two, and have no part in the recursion.
+// Patterns, branches and pieces in one pass: three functions that call each other, as those of the grammar do. What they share
+// goes through them from left to right: the rows of what may follow by value, so that each call gives them back with its own
+// links, and the tables of letters and credits, which are lent and filled as the atoms are read. Patterns and branches are folded
+// from the left: one part has been read, and the next is joined to it.
+use crate::rows;
+use letters::table;
 ghost use mathlib.Core.Path.{_≡_};
-ghost use mathlib.Core.Bool.{_&&_, _||_};
+ghost use mathlib.Core.Bool.{_&&_};
 ghost use Prim.Native.Nat.{ℕ, _≤_, _<_};
-ghost use lib.Dec.{eqb};
-ghost use lib.ListN.{drop};
-ghost use Rattle.bits.specs.Bits.{hasBit};
+ghost use mathlib.Core.List.{List, []};
+ghost use lib.ListN.{length, drop};
 ghost use Rattle.pattern.specs.Grammar.{goesOn, readLetter, repeated, patternFrom, branchFrom, pieceFrom};
-ghost use Rattle.pattern.specs.Parts as P;
-ghost use Rattle.reader.specs.Rows.{Marks, Linked, Stands, Reading, Changes, Repeats, Combines, barNext, closedRead, Parses};
+ghost use Rattle.reader.specs.Tables.{Sized, Stored};
+ghost use Rattle.reader.specs.Parsing.{memory, Parses, ParsesAll, Letters, Changes, Repeats, Stands, nothingRead, Either, Joins, barNext, Opens, closedRead};
 
-// What has been read: whether the grammar holds so far, where the reading goes on, how many positions there are, and which of
-// them may follow which (row a has what may follow position a; row 0 is not used); and of the part read last whether it can be
-// empty, its firsts and its lasts. Where `good` is false the rest means nothing.
+// A part that was parsed: whether the grammar holds so far, where it goes on, how many positions there are up to there; whether
+// the part can be empty, its firsts and its lasts; whether an atom of it has a reversed range, or no letter. Where `good` is false
+// the rest means nothing.
 pub struct Parsed {
     pub good: bool,
     pub at: usize,
+    pub n: usize,
     pub empty: bool,
     pub firsts: u64,
     pub lasts: u64,
-    pub n: usize,
-    pub follow: [u64; 61],
+    pub reversed: bool,
+    pub hollow: bool,
+}
+
+// A part, and the rows with its links: row a has what may follow position a, and row 0 is not used.
+pub struct ParsedRows {
+    pub part: Parsed,
+    pub rows: [u64; 61],
+}
+
+// The pattern that s begins with. The whole of s follows the grammar where this is good and ends at the end of s.
+pub fn parse(s: &[u8], sets: &mut [u64], credits: &mut [u8]) -> ParsedRows
+    requires { ⌜ Sized (now sets) (now credits) × Stored [] (now sets) (now credits) ⌝ }
+    ensures { λ r. ⌜ ParsesAll (now (s .entry)) (r .rows) (now (sets .exit)) (now (credits .exit)) (r .part) ⌝ }
+{
+    let rows = [0u64; 61];
+    pattern(s, 0, 0, rows, sets, credits)
+}
+
+// One or more branches, parted by `|`.
+fn pattern(
+    s: &[u8],
+    at: usize,
+    n: usize,
+    rows: [u64; 61],
+    sets: &mut [u64],
+    credits: &mut [u8],
+) -> ParsedRows
+    requires { ⌜ (n ≤ at) × Sized (now sets) (now credits) ⌝ }
+    ensures { λ r. ⌜ Parses patternFrom 2 (now (s .entry)) at n (memory rows (now (sets .entry)) (now (credits .entry))) (memory (r .rows) (now (sets .exit)) (now (credits .exit))) (r .part) ⌝ }
+{
+    let mut all = rows;
+    let mut so_far = nothing(at, n, false);
+    loop {
+        let b = branch(s, so_far.at, so_far.n, all, &mut *sets, &mut *credits);
+        all = b.rows;
+        let next = b.part;
+        so_far = either(so_far, next);
+        if !is_bar(s, so_far.good, so_far.at) {
+            return ParsedRows {
+                part: so_far,
+                rows: all,
+            };
+        }
+        so_far.at = so_far.at + 1;
+    }
+}
+
+// One or more pieces. A lettered atom is read here, since it has no rows to give back but its own.
+fn branch(
+    s: &[u8],
+    at: usize,
+    n: usize,
+    rows: [u64; 61],
+    sets: &mut [u64],
+    credits: &mut [u8],
+) -> ParsedRows
+    requires { ⌜ (n ≤ at) × Sized (now sets) (now credits) ⌝ }
+    ensures { λ r. ⌜ Parses branchFrom 1 (now (s .entry)) at n (memory rows (now (sets .entry)) (now (credits .entry))) (memory (r .rows) (now (sets .exit)) (now (credits .exit))) (r .part) ⌝ }
+{
+    let mut all = rows;
+    let mut so_far = nothing(at, n, true);
+    loop {
+        let t = so_far.at;
+        let mut next = so_far;
+        if atoms::byte_at(s, t) == b'(' {
+            let p = piece(s, t, so_far.n, all, &mut *sets, &mut *credits);
+            all = p.rows;
+            next = p.part;
+        } else {
+            next = lettered(s, t, so_far.n, &mut all, &mut *sets, &mut *credits);
+        }
+        so_far = join(&mut all, so_far, next);
+        if !goes_on(s, so_far.good, so_far.at) {
+            return ParsedRows {
+                part: so_far,
+                rows: all,
+            };
+        }
+    }
+}
+
+// A pattern in `( )`, with its repeat.
+fn piece(
+    s: &[u8],
+    at: usize,
+    n: usize,
+    rows: [u64; 61],
+    sets: &mut [u64],
+    credits: &mut [u8],
+) -> ParsedRows
+    requires { ⌜ (n ≤ at) × Sized (now sets) (now credits) × Opens (now s) at ⌝ }
+    ensures { λ r. ⌜ Parses pieceFrom 0 (now (s .entry)) at n (memory rows (now (sets .entry)) (now (credits .entry))) (memory (r .rows) (now (sets .exit)) (now (credits .exit))) (r .part) ⌝ }
+{
+    let p = pattern(s, at + 1, n, rows, sets, credits);
+    let mut all = p.rows;
+    let inner = p.part;
+    let atom = closed(s, inner);
+    let part = repeat(s, atom, &mut all);
+    ParsedRows {
+        part: part,
+        rows: all,
+    }
+}
+
+// A lettered atom with its repeat.
+fn lettered(
+    s: &[u8],
+    at: usize,
+    n: usize,
+    rows: &mut [u64; 61],
+    sets: &mut [u64],
+    credits: &mut [u8],
+) -> Parsed
+    requires { ⌜ (n ≤ at) × Sized (now sets) (now credits) × (length (now rows) ≡ 61) ⌝ }
+    ensures { λ r. ⌜ Stands (now (s .entry)) at n (memory (now (rows .entry)) (now (sets .entry)) (now (credits .entry))) (memory (now (rows .exit)) (now (sets .exit)) (now (credits .exit))) (repeated (readLetter (drop at (now (s .entry))))) r
+        × (length (now (rows .exit)) ≡ 61) ⌝ }
+{
+    let a = letter(s, at, n, sets, credits);
+    repeat(s, a, rows)
+}
+
+// A lettered atom is a position, its only first and last. Its letters and its credit go to the tables.
+fn letter(s: &[u8], at: usize, n: usize, sets: &mut [u64], credits: &mut [u8]) -> Parsed
+    requires { ⌜ (n ≤ at) × Sized (now sets) (now credits) ⌝ }
+    ensures { λ r. ⌜ Letters (now (s .entry)) at n (now (sets .entry)) (now (credits .entry)) (now (sets .exit)) (now (credits .exit)) (readLetter (drop at (now (s .entry)))) r ⌝ }
+{
+    let a = atoms::atom(s, at);
+    if !a.good {
+        let mut none = nothing(at, n, false);
+        none.good = false;
+        return none;
+    }
+    let set = a.set;
+    let k = n + 1;
+    if k < 61 {
+        table::put(&mut *sets, k, set);
+        credits[k] = a.credit;
+    }
+    let own = rows::position(k);
+    Parsed {
+        good: true,
+        at: a.at,
+        n: k,
+        empty: false,
+        firsts: own,
+        lasts: own,
+        reversed: a.reversed,
+        hollow: a.hollow,
+    }
+}
+
+// The `)` after a pattern in `( )`.
+fn closed(s: &[u8], p: Parsed) -> Parsed
+    ensures { λ r. ⌜ ((rows : List ℕ) → Changes closedRead (now (s .entry)) rows rows p r) ⌝ }
+{
+    let mut out = p;
+    let at = p.at;
+    if atoms::byte_at(s, at) != b')' {
+        out.good = false;
+        return out;
+    }
+    out.at = at + 1;
+    out
+}
+
+// What repeats an atom, if anything does.
+fn repeat(s: &[u8], p: Parsed, rows: &mut [u64; 61]) -> Parsed
+    requires { ⌜ length (now rows) ≡ 61 ⌝ }
+    ensures { λ r. ⌜ Changes repeated (now (s .entry)) (now (rows .entry)) (now (rows .exit)) p r × (length (now (rows .exit)) ≡ 61) ⌝ }
+{
+    if !p.good {
+        return p;
+    }
+    let b = atoms::byte_at(s, p.at);
+    if b == b'?' {
+        return again(p, rows, true, false);
+    }
+    if b == b'*' {
+        return again(p, rows, true, true);
+    }
+    if b == b'+' {
+        return again(p, rows, false, true);
+    }
+    p
+}
+
+// The part with its repeat, one byte further: whether it may be left out, and whether it may go round.
+fn again(p: Parsed, rows: &mut [u64; 61], skips: bool, loops: bool) -> Parsed
+    requires { ⌜ (p .at < 18446744073709551615) × (length (now rows) ≡ 61) ⌝ }
+    ensures { λ r. ⌜ Repeats skips loops (now (rows .entry)) (now (rows .exit)) p r × (length (now (rows .exit)) ≡ 61) ⌝ }
+{
+    let mut out = p;
+    let back = rows::union_if(loops, 0, p.lasts);
+    rows::link(rows, back, p.firsts);
+    out.at = p.at + 1;
+    out.empty = skips | p.empty;
+    out
+}
+
+// Before the first part of a pattern or a branch.
+fn nothing(at: usize, n: usize, empty: bool) -> Parsed
+    ensures { λ r. ⌜ r ≡ nothingRead at n empty ⌝ }
+{
+    Parsed {
+        good: true,
+        at: at,
+        n: n,
+        empty: empty,
+        firsts: 0,
+        lasts: 0,
+        reversed: false,
+        hollow: false,
+    }
+}
+
+// A branch more.
+fn either(a: Parsed, b: Parsed) -> Parsed
+    ensures { λ r. ⌜ Either a b r ⌝ }
+{
+    Parsed {
+        good: b.good,
+        at: b.at,
+        n: b.n,
+        empty: a.empty | b.empty,
+        firsts: bits::union(a.firsts, b.firsts),
+        lasts: bits::union(a.lasts, b.lasts),
+        reversed: a.reversed | b.reversed,
+        hollow: a.hollow | b.hollow,
+    }
+}
+
+// A piece more.
+fn join(rows: &mut [u64; 61], a: Parsed, b: Parsed) -> Parsed
+    requires { ⌜ length (now rows) ≡ 61 ⌝ }
+    ensures { λ r. ⌜ Joins (now (rows .entry)) (now (rows .exit)) a b r × (length (now (rows .exit)) ≡ 61) ⌝ }
+{
+    rows::link(rows, a.lasts, b.firsts);
+    Parsed {
+        good: b.good,
+        at: b.at,
+        n: b.n,
+        empty: a.empty & b.empty,
+        firsts: rows::union_if(a.empty, a.firsts, b.firsts),
+        lasts: rows::union_if(b.empty, b.lasts, a.lasts),
+        reversed: a.reversed | b.reversed,
+        hollow: a.hollow | b.hollow,
+    }
 }
 
 // Does another branch follow.
@@ -37,201 +286,4 @@ fn goes_on(s: &[u8], good: bool, at: usize) -> bool
 {
     let b = atoms::byte_at(s, at);
     good & !((s.len() <= at) | ((b == b'|') | (b == b')')))
-}
-
-// The set of position n alone: none past 60.
-fn position(n: usize) -> u64
-    ensures { λ r. ⌜ Marks r (λ b. eqb b n) ⌝ }
-{
-    if n < 61 { bits::only(n) } else { 0 }
-}
-
-// The members of x and, on a condition, those of y.
-fn joined_if(yes: bool, x: u64, y: u64) -> u64
-    ensures { λ r. ⌜ ((b : ℕ) → hasBit r b ≡ (hasBit x b || (yes && hasBit y b))) ⌝ }
-{
-    if yes { bits::union(x, y) } else { x }
-}
-
-// The rows, and each of firsts may follow each of lasts that has a row.
-fn link(rows: [u64; 61], lasts: u64, firsts: u64) -> [u64; 61]
-    ensures { λ r. ⌜ Linked rows lasts firsts r ⌝ }
-{
-    let mut out = rows;
-    let mut left = bits::intersection(bits::below(61), lasts);
-    while left != 0 {
-        let a = bits::lowest(left);
-        out[a] = bits::union(out[a], firsts);
-        left = bits::rest(left);
-    }
-    out
-}
-
-// A lettered atom is a position, its only first and last.
-fn letter(s: &[u8], p: Parsed) -> Parsed
-    requires { ⌜ p .n ≤ p .at ⌝ }
-    ensures { λ r. ⌜ Stands (now (s .entry)) p (readLetter (drop (p .at) (now (s .entry)))) r ⌝ }
-{
-    let at = p.at;
-    let a = atoms::atom(s, at);
-    let mut out = p;
-    out.good = a.good;
-    if !a.good {
-        return out;
-    }
-    let n = p.n + 1;
-    let own = position(n);
-    out.at = a.at;
-    out.empty = false;
-    out.firsts = own;
-    out.lasts = own;
-    out.n = n;
-    out
-}
-
-// The part with its repeat, one byte further: whether it may be left out, and whether it may go round.
-fn again(p: Parsed, skips: bool, loops: bool) -> Parsed
-    requires { ⌜ p .at < 18446744073709551615 ⌝ }
-    ensures { λ r. ⌜ Repeats skips loops p r ⌝ }
-{
-    let mut out = p;
-    let rows = out.follow;
-    let back = joined_if(loops, 0, p.lasts);
-    let linked = link(rows, back, p.firsts);
-    out.follow = linked;
-    out.at = p.at + 1;
-    out.empty = skips | p.empty;
-    out
-}
-
-// What repeats an atom, if anything does.
-fn repeat(s: &[u8], p: Parsed) -> Parsed
-    ensures { λ r. ⌜ Changes repeated (now (s .entry)) p r ⌝ }
-{
-    if !p.good {
-        return p;
-    }
-    let at = p.at;
-    let b = atoms::byte_at(s, at);
-    if b == b'?' {
-        return again(p, true, false);
-    }
-    if b == b'*' {
-        return again(p, true, true);
-    }
-    if b == b'+' {
-        return again(p, false, true);
-    }
-    p
-}
-
-// The `)` after a pattern in `( )`.
-fn closed(s: &[u8], p: Parsed) -> Parsed
-    ensures { λ r. ⌜ Changes closedRead (now (s .entry)) p r ⌝ }
-{
-    let mut out = p;
-    let at = p.at;
-    if atoms::byte_at(s, at) != b')' {
-        out.good = false;
-        return out;
-    }
-    out.at = at + 1;
-    out
-}
-
-// Branches: what is left of the first, and the others.
-fn either(empty: bool, firsts: u64, lasts: u64, b: Parsed) -> Parsed
-    ensures { λ r. ⌜ Combines P.either empty firsts lasts b r ⌝ }
-{
-    let mut out = b;
-    out.empty = empty | b.empty;
-    out.firsts = bits::union(firsts, b.firsts);
-    out.lasts = bits::union(lasts, b.lasts);
-    out
-}
-
-// A piece and the branch after it.
-fn join(empty: bool, firsts: u64, lasts: u64, b: Parsed) -> Parsed
-    ensures { λ r. ⌜ Combines P.joined empty firsts lasts b r ⌝ }
-{
-    let mut out = b;
-    let rows = out.follow;
-    let linked = link(rows, lasts, b.firsts);
-    out.follow = linked;
-    out.empty = empty & b.empty;
-    out.firsts = joined_if(empty, firsts, b.firsts);
-    out.lasts = joined_if(b.empty, b.lasts, lasts);
-    out
-}
-
-// An atom with at most one repeat after it: a lettered atom, or a pattern in `( )`.
-fn piece(s: &[u8], q: Parsed) -> Parsed
-    requires { ⌜ q .n ≤ q .at ⌝ }
-    ensures { λ r. ⌜ Reading pieceFrom 0 (now (s .entry)) q r ⌝ }
-{
-    let mut p = q;
-    let at = p.at;
-    if atoms::byte_at(s, at) != b'(' {
-        p = letter(s, p);
-        p = repeat(s, p);
-        return p;
-    }
-    p.at = at + 1;
-    p = pattern(s, p);
-    p = closed(s, p);
-    p = repeat(s, p);
-    p
-}
-
-// One or more pieces.
-fn branch(s: &[u8], q: Parsed) -> Parsed
-    requires { ⌜ q .n ≤ q .at ⌝ }
-    ensures { λ r. ⌜ Reading branchFrom 1 (now (s .entry)) q r ⌝ }
-{
-    let mut p = piece(s, q);
-    if !goes_on(s, p.good, p.at) {
-        return p;
-    }
-    let empty = p.empty;
-    let firsts = p.firsts;
-    let lasts = p.lasts;
-    p = branch(s, p);
-    p = join(empty, firsts, lasts, p);
-    p
-}
-
-// One or more branches, parted by `|`.
-fn pattern(s: &[u8], q: Parsed) -> Parsed
-    requires { ⌜ q .n ≤ q .at ⌝ }
-    ensures { λ r. ⌜ Reading patternFrom 2 (now (s .entry)) q r ⌝ }
-{
-    let mut p = branch(s, q);
-    let at = p.at;
-    if !is_bar(s, p.good, at) {
-        return p;
-    }
-    let empty = p.empty;
-    let firsts = p.firsts;
-    let lasts = p.lasts;
-    p.at = at + 1;
-    p = pattern(s, p);
-    p = either(empty, firsts, lasts, p);
-    p
-}
-
-// The pattern that s begins with. The whole of s follows the grammar where this is good and ends at the end of s.
-pub fn parse(s: &[u8]) -> Parsed
-    ensures { λ r. ⌜ Parses (now (s .entry)) r ⌝ }
-{
-    let mut p = Parsed {
-        good: false,
-        at: 0,
-        empty: false,
-        firsts: 0,
-        lasts: 0,
-        n: 0,
-        follow: [0u64; 61],
-    };
-    p = pattern(s, p);
-    p
 }

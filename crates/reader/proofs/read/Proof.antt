@@ -1,5 +1,5 @@
--- At each return the tests before it did not apply. Where the third does not, the text is a pattern, and so its scan finds the
--- atoms of its part. Assumes nothing.
+-- At each return the tests before it did not apply. Where the third does not, the text is a pattern, and what was parsed is the
+-- whole of it. Assumes nothing.
 use mathlib.Core.Path.{_≡_, refl, sym, ap, _∙_}
 use mathlib.Core.Bool.{true, not, _&&_}
 use mathlib.Core.List.{List}
@@ -11,11 +11,10 @@ use borrow.Author.Needs.{needs}
 use borrow.Author.Tests.{lt-ltb, le-ltb, not-false}
 use Rattle.basics.proofs.Tests.{and-parts}
 use Rattle.pattern.specs.Grammar.{readPattern, isPattern, patternPart}
-use Rattle.pattern.specs.Positions.{atoms, positions}
-use Rattle.reader.specs.Rows.{Whole}
-use Rattle.reader.specs.Scan.{Describes}
-use Rattle.reader.proofs.Scanning.{scan-pattern}
-use Rattle.reader.proofs.Building.{found-bounded}
+use Rattle.pattern.specs.Positions.{positions}
+use Rattle.reader.specs.Parsing.{shapeOf, Whole}
+use Rattle.reader.proofs.Storing.{none-stored}
+use Rattle.reader.proofs.Building.{stored-bounded}
 use Rattle.reader.proofs.Refusals.{tests, Passes, fails-more, refuses, accepts, whole-pattern}
 use Rattle.reader.proofs.read.Statement.{statement}
 use Rattle.reader.proofs.read.Tie as tie
@@ -29,7 +28,7 @@ abbrev text2 : tie.Else2 → List ℕ
 text2 c = text1 (c .before .before)
 
 abbrev text3 : tie.Else3 → List ℕ
-text3 c = text2 (c .before .before .before .before)
+text3 c = text2 (c .before .before .before .before .before .before .before .before .before .before)
 
 passes-1 : (c : tie.Else1) → Passes (text1 c) 1
 passes-1 c = (le-ltb 512 (length (text1 c)) (c .if1 .left), tt)
@@ -40,29 +39,26 @@ passes-2 c = fails-more (tests (text2 c)) 1 (passes-1 (c .before .before)) (ap n
 -- the pattern ends with the text
 whole : (c : tie.Else3) → isPattern (text3 c) ≡ true
 whole c =
-    let p = c .before .before .before .parse in
-    sym (whole-pattern (text3 c) (p .result) (p .ensures)) ∙ not-false (p .result .good && eqb (p .result .at) (length (text3 c))) (c .if3 .left)
+    let p = c .before .before .before .before .before .before .parse in
+    sym (whole-pattern (text3 c) _ _ _ (p .result .part) (p .ensures)) ∙ not-false (p .result .part .good && eqb (p .result .part .at) (length (text3 c))) (c .if3 .left)
 
 passes-3 : (c : tie.Else3) → Passes (text3 c) 3
-passes-3 c = fails-more (tests (text3 c)) 2 (passes-2 (c .before .before .before .before)) (ap not (whole c))
+passes-3 c = fails-more (tests (text3 c)) 2 (passes-2 (c .before .before .before .before .before .before .before .before .before .before)) (ap not (whole c))
 
-links : (c : tie.Else3) → Whole (patternPart (text3 c)) (c .before .before .before .parse .result)
-links c = let p = c .before .before .before .parse in p .ensures .has (p .ensures .same ∙ and-parts (readPattern (text3 c) .good) _ (whole c) .0)
+parsed : (c : tie.Else3) → Whole (shapeOf (patternPart (text3 c))) (c .before .before .before .before .before .before .parse .result .rows) (c .before .before .before .before .before .before .parse .last .1 .0) (c .before .before .before .before .before .before .parse .last .1 .1 .0) (c .before .before .before .before .before .before .parse .result .part)
+parsed c = let p = c .before .before .before .before .before .before .parse in p .ensures .has (p .ensures .same ∙ and-parts (readPattern (text3 c) .good) _ (whole c) .0)
 
-found : (c : tie.After-scan) → Describes (atoms (patternPart (text3 (c .before)))) (c .scan .result)
-found c = let s = text3 (c .before) in c .scan .ensures (atoms (patternPart s)) (scan-pattern s (whole (c .before)))
+passes-4 : (c : tie.Else4) → Passes (text3 (c .before)) 4
+passes-4 c = fails-more (tests (text3 (c .before))) 3 (passes-3 (c .before)) (sym (parsed (c .before) .reversed) ∙ c .if4 .left)
 
-passes-4 : (c : tie.Else4) → Passes (text3 (c .before .before)) 4
-passes-4 c = fails-more (tests (text3 (c .before .before))) 3 (passes-3 (c .before .before)) (sym (found (c .before) .turned) ∙ c .if4 .left)
+passes-5 : (c : tie.Else5) → Passes (text3 (c .before .before)) 5
+passes-5 c = fails-more (tests (text3 (c .before .before))) 4 (passes-4 (c .before)) (sym (parsed (c .before .before) .hollow) ∙ c .if5 .left)
 
-passes-5 : (c : tie.Else5) → Passes (text3 (c .before .before .before)) 5
-passes-5 c = fails-more (tests (text3 (c .before .before .before))) 4 (passes-4 (c .before)) (sym (found (c .before .before) .hollow) ∙ c .if5 .left)
+few : (c : tie.Else6) → positions (patternPart (text3 (c .before .before .before .before))) ≤ 60
+few c = let count = parsed (c .before .before .before .before) .count in omega (arith, c .if6 .left)
 
-few : (c : tie.Else6) → positions (patternPart (text3 (c .before .before .before .before .before))) ≤ 60
-few c = let count = links (c .before .before .before .before .before) .count in omega (arith, c .if6 .left)
-
-passes-6 : (c : tie.Else6) → Passes (text3 (c .before .before .before .before .before)) 6
-passes-6 c = let s = text3 (c .before .before .before .before .before) in fails-more (tests s) 5 (passes-5 (c .before .before)) (le-ltb 60 (positions (patternPart s)) (few c))
+passes-6 : (c : tie.Else6) → Passes (text3 (c .before .before .before .before)) 6
+passes-6 c = let s = text3 (c .before .before .before .before) in fails-more (tests s) 5 (passes-5 (c .before .before)) (le-ltb 60 (positions (patternPart s)) (few c))
 
 -- ---- the returns
 
@@ -85,55 +81,69 @@ returns-2 c =
     let short = c .before .before .before in
     refuses (text1 short) 1 (c .refused2 .result) (passes-1 short) (ap not (sym (c .before .before .all-letters .ensures)) ∙ c .before .if2 .taken) (c .refused2 .ensures)
 
+empty-requires : tie.Need-empty-requires
+empty-requires c κs = search needs
+
+slice-aggregate-parse : tie.Need-slice-aggregate-parse
+slice-aggregate-parse c = search needs
+
+slice-aggregate-parse-2 : tie.Need-slice-aggregate-parse-2
+slice-aggregate-parse-2 c = search needs
+
 parse-requires : tie.Need-parse-requires
-parse-requires c κs = search needs
+parse-requires c κs =
+    let empty = c .before .before .empty .ensures in
+    (record { sets-are = empty .0; credits-are = refl }, none-stored (c .before .before .empty .result) (empty .1))
 
 refused-requires-3 : tie.Need-refused-requires-3
 refused-requires-3 c κs = search needs
 
 returns-3 : tie.Need-returns-3
 returns-3 c =
-    let letters = c .before .before .before .before .before in
+    let letters = c .before .before .before .before .before .before .before .before .before .before .before in
     let s = text2 letters in
-    let p = c .before .before .before .before .parse in
-    refuses s 2 (c .refused3 .result) (passes-2 letters) (ap not (sym (whole-pattern s (p .result) (p .ensures))) ∙ c .before .if3 .taken) (c .refused3 .ensures)
-
-scan-requires : tie.Need-scan-requires
-scan-requires c κs = search needs
+    let p = c .before .before .before .before .before .before .before .parse in
+    refuses s 2 (c .refused3 .result) (passes-2 letters) (ap not (sym (whole-pattern s _ _ _ (p .result .part) (p .ensures))) ∙ c .before .if3 .taken) (c .refused3 .ensures)
 
 refused-requires-4 : tie.Need-refused-requires-4
 refused-requires-4 c κs = search needs
 
 returns-4 : tie.Need-returns-4
 returns-4 c =
-    let parsed = c .before .before .before in
-    refuses (text3 parsed) 3 (c .refused4 .result) (passes-3 parsed) (sym (found (c .before .before) .turned) ∙ c .before .if4 .taken) (c .refused4 .ensures)
+    let is = c .before .before in
+    refuses (text3 is) 3 (c .refused4 .result) (passes-3 is) (sym (parsed is .reversed) ∙ c .before .if4 .taken) (c .refused4 .ensures)
 
 refused-requires-5 : tie.Need-refused-requires-5
 refused-requires-5 c κs = search needs
 
 returns-5 : tie.Need-returns-5
 returns-5 c =
-    refuses (text3 (c .before .before .before .before)) 4 (c .refused5 .result) (passes-4 (c .before .before)) (sym (found (c .before .before .before) .hollow) ∙ c .before .if5 .taken) (c .refused5 .ensures)
+    let is = c .before .before .before in
+    refuses (text3 is) 4 (c .refused5 .result) (passes-4 (c .before .before)) (sym (parsed is .hollow) ∙ c .before .if5 .taken) (c .refused5 .ensures)
 
 refused-requires-6 : tie.Need-refused-requires-6
 refused-requires-6 c κs = search needs
 
 returns-6 : tie.Need-returns-6
 returns-6 c =
-    let s = text3 (c .before .before .before .before .before .before) in
-    let count = links (c .before .before .before .before .before .before) .count in
+    let is = c .before .before .before .before .before in
+    let s = text3 is in
+    let count = parsed is .count in
     refuses s 5 (c .refused6 .result) (passes-5 (c .before .before .before)) (lt-ltb 60 (positions (patternPart s)) (omega (arith, c .before .if6 .taken))) (c .refused6 .ensures)
+
+slice-aggregate-built : tie.Need-slice-aggregate-built
+slice-aggregate-built c = search needs
 
 built-requires : tie.Need-built-requires
 built-requires c κs = search needs
 
 returns-7 : tie.Need-returns-7
 returns-7 c =
-    let s = text3 (c .before .before .before .before .before .before) in
-    let f = found (c .before .before .before .before .before) in
-    let l = few (c .before) in
-    accepts s _ (passes-6 (c .before)) refl (c .built .ensures (patternPart s) (links (c .before .before .before .before .before .before)) f l) (found-bounded (patternPart s) _ f l)
+    let is = c .before .before .before .before .before .before in
+    let s = text3 is in
+    let w = parsed is in
+    let l = few (c .before .before) in
+    accepts s _ (passes-6 (c .before .before)) refl (c .built .ensures (patternPart s) w l) (stored-bounded (patternPart s) _ _ (w .stored) l)
 
 pub read-spec : {M : Type 1} → statement M
 read-spec =
@@ -144,15 +154,18 @@ read-spec =
     all-letters-requires
     refused-requires-2
     returns-2
+    empty-requires
+    slice-aggregate-parse
+    slice-aggregate-parse-2
     parse-requires
     refused-requires-3
     returns-3
-    scan-requires
     refused-requires-4
     returns-4
     refused-requires-5
     returns-5
     refused-requires-6
     returns-6
+    slice-aggregate-built
     built-requires
     returns-7)

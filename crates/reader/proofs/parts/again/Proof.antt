@@ -1,11 +1,11 @@
--- The lasts to link from are none where the repeat does not go round. Assumes nothing.
+-- Where it goes round, its firsts may follow its lasts. Assumes nothing.
 use borrow.Author.Needs.{needs}
-use Rattle.reader.proofs.Reading.{again-stands}
+use Rattle.reader.proofs.Parsing.{again-stands}
 use Rattle.reader.proofs.parts.again.Statement.{statement}
 use Rattle.reader.proofs.parts.again.Tie as tie
 
-joined-if-requires : tie.Need-joined-if-requires
-joined-if-requires c κs = search needs
+union-if-requires : tie.Need-union-if-requires
+union-if-requires c κs = search needs
 
 link-requires : tie.Need-link-requires
 link-requires c κs = search needs
@@ -14,7 +14,9 @@ add-out : tie.Need-add-out
 add-out c = search needs
 
 returns : tie.Need-returns
-returns c s q R k e f g l w = again-stands s q R _ w k _ _ e f g l _ _ (c .before .before .before .joined-if .ensures) (c .before .before .link .ensures)
+returns c =
+    let linked = c .before .before .link .ensures in
+    (λ s at n m sets credits R k e f g l w. again-stands s at n m _ sets credits R _ w k _ _ e f g l _ _ (c .before .before .before .before .union-if .ensures) (linked .0), linked .1)
 
 pub again-spec : {M : Type 1} → statement M
-again-spec = tie.close (tie.spec joined-if-requires link-requires add-out returns)
+again-spec = tie.close (tie.spec union-if-requires link-requires add-out returns)

@@ -3,7 +3,7 @@ use mathlib.Core.Path.{refl}
 use native.Mathlib.Omega.{arith}
 use borrow.Author.Needs.{needs}
 use Rattle.atoms.proofs.Places.{next-within}
-use Rattle.reader.proofs.Reading.{close-not, close-stands}
+use Rattle.reader.proofs.Parsing.{close-not, close-stands}
 use Rattle.reader.proofs.parts.closed.Statement.{statement}
 use Rattle.reader.proofs.parts.closed.Tie as tie
 
@@ -11,7 +11,7 @@ byte-at-requires : tie.Need-byte-at-requires
 byte-at-requires c κs = search needs
 
 returns : tie.Need-returns
-returns c q R w = close-not _ q R _ w (c .before .byte-at .result) (c .before .byte-at .ensures) _ refl (c .if1 .taken)
+returns c rows at n m sets credits R w = close-not _ at n m rows sets credits R _ w (c .before .byte-at .result) (c .before .byte-at .ensures) _ refl (c .if1 .taken)
 
 add-out : tie.Need-add-out
 add-out c =
@@ -20,7 +20,7 @@ add-out c =
     omega arith
 
 returns-2 : tie.Need-returns-2
-returns-2 c q R w = close-stands _ q R _ w (c .before .byte-at .result) (c .before .byte-at .ensures) (c .if1 .left)
+returns-2 c rows at n m sets credits R w = close-stands _ at n m rows sets credits R _ w (c .before .byte-at .result) (c .before .byte-at .ensures) (c .if1 .left)
 
 pub closed-spec : {M : Type 1} → statement M
 closed-spec = tie.close (tie.spec byte-at-requires returns add-out returns-2)

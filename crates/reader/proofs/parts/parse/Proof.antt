@@ -3,24 +3,30 @@ use Prim.Native.Nat.{suc, _*_}
 use native.Mathlib.Omega.{arith}
 use lib.ListN.{length}
 use borrow.Author.Needs.{needs}
-use Rattle.pattern.specs.Grammar.{patternPart}
-use Rattle.reader.proofs.Sets.{has-whole}
+use Rattle.reader.proofs.Joining.{has-whole}
 use Rattle.reader.proofs.parts.parse.Statement.{statement}
 use Rattle.reader.proofs.parts.parse.Tie as tie
 
 pattern-requires : tie.Need-pattern-requires
 pattern-requires c κs = search needs
 
+same-length : tie.Need-same-length
+same-length c = search needs
+
+same-length-2 : tie.Need-same-length-2
+same-length-2 c = search needs
+
 returns : tie.Need-returns
 returns c =
-    let s = c .before .before .args .s .now in
-    let w = c .pattern .ensures (suc (3 * suc (length s))) (omega arith) in
+    let start = c .before .before .before .before .before .before .before .before .before .before in
+    let s = start .args .s .now in
+    let w = c .before .before .before .before .pattern .ensures (suc (3 * suc (length s))) (omega arith) in
     record {
       same = w .same;
       within = λ g. w .gives g .within;
-      rest = λ g. w .gives g .rest;
-      has = λ g. has-whole 61 (patternPart s) (c .pattern .result) (w .gives g .has);
+      rest = λ g. w .gives g .goes;
+      has = λ g. has-whole 61 _ _ _ _ _ _ _ (w .gives g .has) (start .pre .1);
     }
 
 pub parse-spec : {M : Type 1} → statement M
-parse-spec = tie.close (tie.spec pattern-requires returns)
+parse-spec = tie.close (tie.spec pattern-requires same-length same-length-2 returns)

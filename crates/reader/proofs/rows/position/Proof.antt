@@ -7,8 +7,8 @@ use borrow.Author.Tests.{lt-ltb, le-ltb, eq-eqb, ne-eqb}
 use Rattle.basics.proofs.Tests.{by-equal}
 use Rattle.bits.proofs.Laws.{has-none}
 use Rattle.reader.specs.Rows.{kept}
-use Rattle.reader.proofs.parts.position.Statement.{statement}
-use Rattle.reader.proofs.parts.position.Tie as tie
+use Rattle.reader.proofs.rows.position.Statement.{statement}
+use Rattle.reader.proofs.rows.position.Tie as tie
 
 only-requires : tie.Need-only-requires
 only-requires c κs = search needs
