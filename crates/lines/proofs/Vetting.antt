@@ -11,7 +11,7 @@ use Rattle.pattern.specs.Grammar.{patternPart}
 use Rattle.pattern.specs.Positions.{positions, patternGraph}
 use Rattle.pattern.specs.Refusals.{patternRefusal}
 use Rattle.verdict.specs.Verdict.{verdict}
-use Rattle.walk.specs.declared.Vetted.{Vetted}
+use Rattle.vetting.specs.declared.Vetted.{Vetted}
 use Rattle.marking.specs.Vetting.{VetSays}
 use Rattle.marking.proofs.Vetting.{by-pattern, refusal-is, answered}
 use Rattle.lines.specs.Lines.{word, fields, lineOf, Puts}

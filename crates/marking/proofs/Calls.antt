@@ -23,7 +23,7 @@ use Rattle.verdict.specs.Verdict.{verdict}
 use Rattle.verdict.specs.Evidence.{times, ShowsSteady, ShowsRunaway}
 use Rattle.verdict.specs.Answers.{Begins, ShowsBy}
 use Rattle.marks.specs.declared.Marked.{Marked}
-use Rattle.walk.specs.declared.Vetted.{Vetted}
+use Rattle.vetting.specs.declared.Vetted.{Vetted}
 use Rattle.marking.specs.Packing.{field, vetUnpacked, markUnpacked}
 use Rattle.marking.specs.Marking.{markRefusal, MarkSays, MarkForC}
 use Rattle.marking.specs.Vetting.{vetRefusal, refused, VetSays, VetForC, VetAlone}

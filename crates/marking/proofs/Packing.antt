@@ -18,7 +18,7 @@ use Rattle.pattern.proofs.Accepted.{refusal-none}
 use Rattle.verdict.specs.Answers.{ShowsBy}
 use Rattle.verdict.proofs.Bounds.{verdict-low}
 use Rattle.marks.specs.declared.Marked.{Marked}
-use Rattle.walk.specs.declared.Vetted.{Vetted}
+use Rattle.vetting.specs.declared.Vetted.{Vetted}
 use Rattle.marking.specs.Packing.{field, vetPacked, vetUnpacked, markPacked, markUnpacked}
 use Rattle.marking.specs.Marking.{markRefusal, countShown, MarkSays, countAfter, MarkForC}
 use Rattle.marking.specs.Vetting.{vetRefusal, VetBy, VetSays, VetForC}

@@ -12,8 +12,8 @@ use Rattle.graph.specs.Graph.{Graph}
 use Rattle.graph.specs.Trim.{Trim}
 use Rattle.pattern.specs.Refusals.{patternRefusal, builtGraph}
 use Rattle.pattern.proofs.Useful.{trim}
-use Rattle.walk.specs.Answers.{Judged}
-use Rattle.walk.specs.declared.Vetted.{Vetted}
+use Rattle.vetting.specs.Answers.{Judged}
+use Rattle.vetting.specs.declared.Vetted.{Vetted}
 use Rattle.marking.specs.Vetting.{vetRefusal, refused, Answers, Declined, VetBy, VetSays}
 use Rattle.marking.proofs.Marking.{built-graph}
 

@@ -3,7 +3,7 @@ use Prim.Native.Nat.{ℕ, _+_, _*_, _/_, _%_, _^_}
 use lib.Dec.{eqb}
 use Rattle.basics.specs.Choice.{if_then_else_}
 use Rattle.marks.specs.declared.Marked.{Marked}
-use Rattle.walk.specs.declared.Vetted.{Vetted}
+use Rattle.vetting.specs.declared.Vetted.{Vetted}
 
 -- as many bits of n as `width` says, from bit `from` on: a shift and a mask
 abbrev pub field : ℕ → ℕ → ℕ → ℕ

@@ -8,8 +8,8 @@ use lib.ListN.{length}
 use Rattle.basics.specs.Choice.{if_then_else_}
 use Rattle.pattern.specs.Refusals.{patternRefusal}
 use Rattle.pattern.specs.Positions.{patternGraph}
-use Rattle.walk.specs.Answers.{Judged}
-use Rattle.walk.specs.declared.Vetted.{Vetted}
+use Rattle.vetting.specs.Answers.{Judged}
+use Rattle.vetting.specs.declared.Vetted.{Vetted}
 use Rattle.marking.specs.Packing.{vetPacked}
 
 -- [Refusals] 1, fewer than 4,096 bytes of evidence, then 2, fewer than 8,192 numbers of scratch, then those of the pattern

@@ -1,7 +1,7 @@
 // The calls that clients make, from Rattle and from C. No call has a `requires`: each tests its input itself, and what it
 // gives is said for all input.
 use marks::Marked;
-use walk::Vetted;
+use vetting::Vetted;
 ghost use mathlib.Core.Path.{_≡_};
 ghost use Prim.Native.Nat.{_<_, _^_};
 ghost use Rattle.marking.specs.Marking.{MarkSays, MarkForC};
@@ -24,7 +24,7 @@ pub fn vet_pattern(pattern: &[u8], evidence: &mut [u8], scratch: &mut [u16]) -> 
         return no_verdict(p.refusal);
     }
     let built = p.built;
-    walk::vet(built, &mut *evidence, &mut *scratch)
+    vetting::vet(built, &mut *evidence, &mut *scratch)
 }
 
 // A refusal to vet.

@@ -1,0 +1,125 @@
+// The nodes of a search and the steps between them. A node is two paths side by side over one text, in the graph of a pattern's
+// positions, as a number: below 64 a state, where both paths are and have not parted; a * 64 + b, with 1 <= b <= a, where they
+// have parted and are now at a and b. What is taken up is one set for the states, and for the pairs a row for each position: row a
+// has b, and row b has a, where the pair of a and b is. So whether a node is new is one bit, and the new partners of a are one word.
+ghost use mathlib.Core.Path.{_≡_};
+ghost use mathlib.Core.Bool.{true, not, _&&_, _||_};
+ghost use Prim.Native.Nat.{ℕ, _≤_, _<_};
+ghost use lib.Dec.{eqb};
+ghost use Rattle.bits.specs.Bits.{hasBit};
+ghost use Rattle.nodes.specs.Nodes.{IsNode, pack, RowOf, PartnersOf, FindsPair, Finds, TakenUp};
+
+// Stands for no node.
+pub const NONE: usize = 4096;
+
+// A node one step on from x that is not taken up. Where x is no node there is none.
+pub fn next_new<'a>(
+    follow: &'a [u64; 61],
+    shares: &'a [u64; 61],
+    seen: &'a [u64; 61],
+    alone: u64,
+    x: usize,
+) -> usize
+    ensures { λ r. ⌜ Finds (now (follow .entry)) (now (shares .entry)) alone (now (seen .entry)) x r ⌝ }
+{
+    if x <= 60 {
+        let next = row(follow, x);
+        let new = bits::difference(next, alone);
+        if new != 0 {
+            return bits::lowest(new);
+        }
+        return new_pair(shares, seen, next, next, false);
+    }
+    let a = x / 64;
+    let b = x % 64;
+    if x < 64 {
+        return NONE;
+    }
+    if 60 < a {
+        return NONE;
+    }
+    if 60 < b {
+        return NONE;
+    }
+    new_pair(shares, seen, row(follow, a), row(follow, b), true)
+}
+
+// Takes the node y up besides: a pair in its rows, a state in the set that it gives.
+pub fn take_up(seen: &mut [u64; 61], alone: u64, y: usize) -> u64
+    requires { ⌜ IsNode y ⌝ }
+    ensures { λ r. ⌜ TakenUp (now (seen .entry)) (now (seen .exit)) alone y r ⌝ }
+{
+    if y < 64 {
+        return bits::with(alone, y);
+    }
+    let a = y / 64;
+    let b = y % 64;
+    seen[a] = bits::with(seen[a], b);
+    seen[b] = bits::with(seen[b], a);
+    alone
+}
+
+// The positions that may come next at a state.
+fn row(follow: &[u64; 61], u: usize) -> u64
+    requires { ⌜ u ≤ 60 ⌝ }
+    ensures { λ r. ⌜ RowOf (now (follow .entry)) u r ⌝ }
+{
+    bits::intersection(follow[u], bits::span(1, 61))
+}
+
+// A pair that is not taken up, of a position of `from` and one of `to`.
+fn new_pair<'a>(
+    shares: &'a [u64; 61],
+    seen: &'a [u64; 61],
+    from: u64,
+    to: u64,
+    parted: bool,
+) -> usize
+    requires { ⌜ ((i : ℕ) → hasBit from i ≡ true → i ≤ 60) × ((i : ℕ) → hasBit to i ≡ true → i ≤ 60) ⌝ }
+    ensures { λ r. ⌜ FindsPair (now (shares .entry)) (now (seen .entry)) from to parted r ⌝ }
+{
+    let mut left = from;
+    while left != 0 {
+        let a = bits::lowest(left);
+        let new = partners(to, shares[a], seen[a], a, parted);
+        if new != 0 {
+            return pair(a, bits::lowest(new));
+        }
+        left = bits::rest(left);
+    }
+    NONE
+}
+
+// Of the set `to`, the positions that share a letter with a and are not seen beside it.
+fn partners(to: u64, shared: u64, seen: u64, a: usize, parted: bool) -> u64
+    requires { ⌜ a < 64 ⌝ }
+    ensures { λ r. ⌜ PartnersOf to shared seen a parted r ⌝ }
+{
+    others(
+        bits::difference(bits::intersection(to, shared), seen),
+        a,
+        parted,
+    )
+}
+
+// The members of a set but i, or all where `all` says so.
+fn others(set: u64, i: usize, all: bool) -> u64
+    requires { ⌜ i < 64 ⌝ }
+    ensures { λ r. ⌜ ((j : ℕ) → hasBit r j ≡ (hasBit set j && (all || not (eqb i j)))) ⌝ }
+{
+    if all {
+        return set;
+    }
+    bits::difference(set, bits::only(i))
+}
+
+// The node of the parted pair of a and b.
+fn pair(a: usize, b: usize) -> usize
+    requires { ⌜ (a ≤ 60) × (b ≤ 60) ⌝ }
+    ensures { λ r. ⌜ (r ≡ pack a b) × (r < 4096) ⌝ }
+{
+    if a < b {
+        return b * 64 + a;
+    }
+    a * 64 + b
+}

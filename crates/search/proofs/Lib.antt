@@ -1,0 +1,4 @@
+pub mod Visiting
+pub mod Moves
+pub mod Found
+pub mod Pivoting

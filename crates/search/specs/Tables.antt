@@ -1,0 +1,19 @@
+-- What tables say of a graph: the rows of what may come next, and the rows of what shares a letter.
+use mathlib.Core.Path.{_≡_}
+use mathlib.Core.Bool.{true}
+use mathlib.Core.List.{List}
+use Prim.Native.Nat.{ℕ, _≤_}
+use lib.ListN.{getD}
+use Rattle.bits.specs.Bits.{hasBit}
+use Rattle.graph.specs.Graph.{Graph, isPosition}
+use Rattle.verdict.specs.Pairs.{shares}
+use Rattle.nodes.specs.Nodes.{goes}
+
+pub record Rows (g : Graph) (F : List ℕ) : Type 0 where
+  pub few : g .positions ≤ 60
+  pub next : (u i : ℕ) → goes F u i ≡ true → (isPosition g i ≡ true) × (g .next u i ≡ true)
+  pub goes-on : (u i : ℕ) → isPosition g i ≡ true → g .next u i ≡ true → goes F u i ≡ true
+
+pub record Shares (g : Graph) (S : List ℕ) : Type 0 where
+  pub share : (a b : ℕ) → isPosition g a ≡ true → isPosition g b ≡ true → hasBit (getD S a 0) b ≡ shares g a b
+  pub own : (a : ℕ) → isPosition g a ≡ true → shares g a a ≡ true

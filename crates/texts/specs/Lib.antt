@@ -1,0 +1,2 @@
+-- The text of the way to a goal.
+pub mod Texts

@@ -1,0 +1,2 @@
+-- What vetting asks and gives.
+pub mod Answers

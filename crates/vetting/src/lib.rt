@@ -1,0 +1,181 @@
+// The verdict of a pattern, by search. The search for the first pivot decides whether it is runaway; one more decides between single
+// and steady; and the way to a goal is the text that shows the verdict.
+use graph::Built;
+use letters::LetterSet;
+use search::Goal;
+ghost use mathlib.Core.Path.{_≡_};
+ghost use mathlib.Core.Bool.{true, _&&_};
+ghost use Prim.Native.Nat.{ℕ, _≤_, _<_};
+ghost use lib.ListN.{length, getD};
+ghost use Rattle.bits.specs.Bits.{hasBit};
+ghost use Rattle.letters.specs.Alphabet.{someLetter, isLetter};
+ghost use Rattle.letters.specs.LetterSet.{hasLetter};
+ghost use Rattle.graph.specs.Built.{graphOfBuilt};
+ghost use Rattle.verdict.specs.Verdict.{firstPivot};
+ghost use Rattle.search.specs.Tables.{Shares};
+ghost use Rattle.texts.specs.Texts.{held, Lettered};
+ghost use Rattle.vetting.specs.Answers.{Vettable, vetted, Judged};
+
+// What vetting gives: the refusal, or 0 and the verdict (0 single, 1 steady, 2 runaway), the number of positions, and the
+// lengths of the texts at the beginning of the evidence: of a steady pattern a text with two readings; of a runaway one a way to
+// its first pivot, a text with two loops there, and a way to an end. A built pattern is never refused.
+pub struct Vetted {
+    pub refusal: u8,
+    pub verdict: u8,
+    pub positions: u8,
+    pub first: u32,
+    pub second: u32,
+    pub third: u32,
+}
+
+// The verdict of a pattern, with its evidence. 4,096 bytes and 4,096 numbers are enough, whatever they hold.
+pub fn vet(b: Built, evidence: &mut [u8], scratch: &mut [u16]) -> Vetted
+    requires { ⌜ Vettable b × (4096 ≤ length (now evidence)) × (4096 ≤ length (now scratch)) ⌝ }
+    ensures { λ r. ⌜ Judged (graphOfBuilt b) (now (evidence .entry)) (now (evidence .exit)) r ⌝ }
+{
+    let follow = b.follow;
+    let sets = b.letters;
+    let mut shares = [0u64; 61];
+    share_rows(sets, &mut shares, b.positions);
+    let q = search::first_pivot(&follow, &shares, &mut *scratch, b.positions);
+    if q == 0 {
+        return single_or_steady(b, &shares, &mut *evidence, &mut *scratch);
+    }
+    runaway(b, &shares, &mut *evidence, &mut *scratch, q)
+}
+
+// The numbers up to `positions` whose sets share a letter with that of a, for every such a, in rows. The sets are read here and not
+// in a function of one row, which would copy them all.
+fn share_rows(sets: [LetterSet; 61], rows: &mut [u64; 61], positions: usize)
+    requires { ⌜ Lettered sets × (length (now rows) ≡ 61) × (positions ≤ 60) ⌝ }
+    ensures { λ _. ⌜ ((a b : ℕ) → a ≤ positions → b ≤ positions → hasBit (getD (now (rows .exit)) a 0) b ≡ someLetter (held sets a b)) × (length (now (rows .exit)) ≡ 61) ⌝ }
+{
+    let mut a: usize = 0;
+    while a <= positions {
+        let s = sets[a];
+        let mut word: u64 = 0;
+        let mut b: usize = 0;
+        while b <= positions {
+            let t = sets[b];
+            word = bits::with_if(word, b, share(s, t));
+            b += 1;
+        }
+        rows[a] = word;
+        a += 1;
+    }
+}
+
+// Is there a letter that both sets hold.
+fn share(s: LetterSet, t: LetterSet) -> bool
+    requires { ⌜ ((c : ℕ) → hasLetter s c ≡ true → isLetter c ≡ true) ⌝ }
+    ensures { λ r. ⌜ r ≡ someLetter (λ c. hasLetter s c && hasLetter t c) ⌝ }
+{
+    !letters::is_empty(letters::intersection(s, t))
+}
+
+// Of a pattern without a pivot: steady where two readings part and both come to an end, else single.
+fn single_or_steady(
+    b: Built,
+    shares: &[u64; 61],
+    evidence: &mut [u8],
+    scratch: &mut [u16],
+) -> Vetted
+    requires { ⌜ Vettable b × Shares (graphOfBuilt b) (now shares) × (firstPivot (graphOfBuilt b) ≡ 0) × (4096 ≤ length (now evidence)) × (4096 ≤ length (now scratch)) ⌝ }
+    ensures { λ r. ⌜ Judged (graphOfBuilt b) (now (evidence .entry)) (now (evidence .exit)) r ⌝ }
+{
+    let follow = b.follow;
+    let sets = b.letters;
+    let goal = Goal {
+        mask: b.lasts,
+        parted: true,
+    };
+    let n = texts::show(
+        &follow,
+        shares,
+        sets,
+        &mut *scratch,
+        &mut *evidence,
+        goal,
+        0,
+        0,
+    );
+    if n == texts::NO_TEXT {
+        return judgement(b.positions, 0, 0, 0, 0);
+    }
+    judgement(b.positions, 1, n, 0, 0)
+}
+
+// Of a pattern whose first pivot is q.
+fn runaway(
+    b: Built,
+    shares: &[u64; 61],
+    evidence: &mut [u8],
+    scratch: &mut [u16],
+    q: usize,
+) -> Vetted
+    requires { ⌜ Vettable b × Shares (graphOfBuilt b) (now shares) × (firstPivot (graphOfBuilt b) ≡ q) × (0 < q) × (4096 ≤ length (now evidence)) × (4096 ≤ length (now scratch)) ⌝ }
+    ensures { λ r. ⌜ Judged (graphOfBuilt b) (now (evidence .entry)) (now (evidence .exit)) r ⌝ }
+{
+    let follow = b.follow;
+    let sets = b.letters;
+    let none = [0u64; 61];
+    let here = bits::only(q);
+    let arrive = Goal {
+        mask: here,
+        parted: false,
+    };
+    let loops = Goal {
+        mask: here,
+        parted: true,
+    };
+    let leave = Goal {
+        mask: b.lasts,
+        parted: false,
+    };
+    let x = texts::show(
+        &follow,
+        &none,
+        sets,
+        &mut *scratch,
+        &mut *evidence,
+        arrive,
+        0,
+        0,
+    );
+    let y = texts::show(
+        &follow,
+        shares,
+        sets,
+        &mut *scratch,
+        &mut *evidence,
+        loops,
+        q,
+        x,
+    );
+    let z = texts::show(
+        &follow,
+        &none,
+        sets,
+        &mut *scratch,
+        &mut *evidence,
+        leave,
+        q,
+        x + y,
+    );
+    judgement(b.positions, 2, x, y, z)
+}
+
+// A verdict with the lengths of its texts.
+fn judgement(positions: usize, verdict: u8, first: usize, second: usize, third: usize) -> Vetted
+    requires { ⌜ (positions ≤ 60) × (first ≤ 4096) × (second ≤ 4096) × (third ≤ 4096) ⌝ }
+    ensures { λ r. ⌜ r ≡ vetted positions verdict first second third ⌝ }
+{
+    Vetted {
+        refusal: 0,
+        verdict: verdict,
+        positions: positions as u8,
+        first: first as u32,
+        second: second as u32,
+        third: third as u32,
+    }
+}

@@ -1,9 +1,0 @@
-pub mod Nodes
-pub mod Marking
-pub mod Walking
-pub mod Linking
-pub mod Searching
-pub mod Pivoting
-pub mod Letters
-pub mod Tracing
-pub mod Answering
