@@ -1,3 +1,2 @@
--- A search: what holds while it is under way and once it is over, and the tables that it goes by.
+-- A search: what holds while it is under way and once it is over.
 pub mod Search
-pub mod Tables

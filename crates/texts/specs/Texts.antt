@@ -1,27 +1,18 @@
 -- The way back from a node of the queue, and the text of the nodes on it.
 use mathlib.Core.Path.{_≡_}
-use mathlib.Core.Bool.{Bool, true, false, _&&_}
+use mathlib.Core.Bool.{true, false}
 use mathlib.Core.List.{List, [], _∷_, _++_, map}
 use Prim.Native.Nat.{ℕ, suc, _+_, _≤_, _<_}
 use lib.ListN.{length, take, drop}
 use Rattle.basics.specs.Lists.{Apart, endOf, Chain}
-use Rattle.letters.specs.Alphabet.{isLetter, someLetter, lowestLetter}
-use Rattle.letters.specs.LetterSet.{hasLetter}
+use Rattle.letters.specs.Alphabet.{someLetter, lowestLetter}
 use Rattle.letters.specs.declared.LetterSet.{LetterSet}
-use Rattle.letters.specs.Table.{setAt}
-use Rattle.search.specs.declared.Goal.{Goal}
 use Rattle.nodes.specs.Nodes.{leftOf, rightOf, Step}
+use Rattle.tables.specs.Tables.{held}
+use Rattle.search.specs.declared.Goal.{Goal}
 use Rattle.search.specs.Search.{queue, backOf, isGoal}
 
 -- ---- letters
-
--- a code that the sets of two positions both hold
-abbrev pub held : List LetterSet → ℕ → ℕ → ℕ → Bool
-held sets a b c = hasLetter (setAt sets a) c && hasLetter (setAt sets b) c
-
--- the sets hold letters only
-abbrev pub Lettered : List LetterSet → Type 0
-Lettered sets = (i c : ℕ) → hasLetter (setAt sets i) c ≡ true → isLetter c ≡ true
 
 -- the letter shown of a node, and that there is one
 unfoldable pub letterAt : List LetterSet → ℕ → ℕ

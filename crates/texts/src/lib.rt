@@ -6,7 +6,8 @@ ghost use mathlib.Core.Path.{_≡_};
 ghost use Prim.Native.Nat.{ℕ, _+_, _≤_, _<_};
 ghost use lib.ListN.{length, getD};
 ghost use Rattle.nodes.specs.Nodes.{leftOf, rightOf, Step};
-ghost use Rattle.texts.specs.Texts.{Lettered, letterAt, Showable, LeadsBack, Behind, Traced, Shown};
+ghost use Rattle.tables.specs.Tables.{Lettered};
+ghost use Rattle.texts.specs.Texts.{letterAt, Showable, LeadsBack, Behind, Traced, Shown};
 
 // Stands for no text.
 pub const NO_TEXT: usize = 4096;

@@ -36,8 +36,8 @@ use Rattle.search.specs.declared.Goal.{Goal}
 use Rattle.vetting.specs.declared.Vetted.{Vetted}
 use Rattle.nodes.specs.Nodes.{leftOf, rightOf, goes, Step, single, beside}
 use Rattle.search.specs.Search.{isGoal}
-use Rattle.search.specs.Tables.{Rows, Shares}
-use Rattle.texts.specs.Texts.{held, letterAt, Showable, written, ShownText, Shown}
+use Rattle.tables.specs.Tables.{Rows, Shares, held}
+use Rattle.texts.specs.Texts.{letterAt, Showable, written, ShownText, Shown}
 use Rattle.vetting.specs.Answers.{Vettable, vetted, Judged}
 use Rattle.nodes.proofs.Nodes.{left-low, right-low, sides}
 use Rattle.search.proofs.Moves.{shares-swap, positions}

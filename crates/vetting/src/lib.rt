@@ -1,19 +1,13 @@
 // The verdict of a pattern, by search. The search for the first pivot decides whether it is runaway; one more decides between single
 // and steady; and the way to a goal is the text that shows the verdict.
 use graph::Built;
-use letters::LetterSet;
 use search::Goal;
 ghost use mathlib.Core.Path.{_≡_};
-ghost use mathlib.Core.Bool.{true, _&&_};
-ghost use Prim.Native.Nat.{ℕ, _≤_, _<_};
-ghost use lib.ListN.{length, getD};
-ghost use Rattle.bits.specs.Bits.{hasBit};
-ghost use Rattle.letters.specs.Alphabet.{someLetter, isLetter};
-ghost use Rattle.letters.specs.LetterSet.{hasLetter};
+ghost use Prim.Native.Nat.{_≤_, _<_};
+ghost use lib.ListN.{length};
 ghost use Rattle.graph.specs.Built.{graphOfBuilt};
 ghost use Rattle.verdict.specs.Verdict.{firstPivot};
-ghost use Rattle.search.specs.Tables.{Shares};
-ghost use Rattle.texts.specs.Texts.{held, Lettered};
+ghost use Rattle.tables.specs.Tables.{Shares};
 ghost use Rattle.vetting.specs.Answers.{Vettable, vetted, Judged};
 
 // What vetting gives: the refusal, or 0 and the verdict (0 single, 1 steady, 2 runaway), the number of positions, and the
@@ -36,41 +30,12 @@ pub fn vet(b: Built, evidence: &mut [u8], scratch: &mut [u16]) -> Vetted
     let follow = b.follow;
     let sets = b.letters;
     let mut shares = [0u64; 61];
-    share_rows(sets, &mut shares, b.positions);
+    tables::share_rows(sets, &mut shares, b.positions);
     let q = search::first_pivot(&follow, &shares, &mut *scratch, b.positions);
     if q == 0 {
         return single_or_steady(b, &shares, &mut *evidence, &mut *scratch);
     }
     runaway(b, &shares, &mut *evidence, &mut *scratch, q)
-}
-
-// The numbers up to `positions` whose sets share a letter with that of a, for every such a, in rows. The sets are read here and not
-// in a function of one row, which would copy them all.
-fn share_rows(sets: [LetterSet; 61], rows: &mut [u64; 61], positions: usize)
-    requires { ⌜ Lettered sets × (length (now rows) ≡ 61) × (positions ≤ 60) ⌝ }
-    ensures { λ _. ⌜ ((a b : ℕ) → a ≤ positions → b ≤ positions → hasBit (getD (now (rows .exit)) a 0) b ≡ someLetter (held sets a b)) × (length (now (rows .exit)) ≡ 61) ⌝ }
-{
-    let mut a: usize = 0;
-    while a <= positions {
-        let s = sets[a];
-        let mut word: u64 = 0;
-        let mut b: usize = 0;
-        while b <= positions {
-            let t = sets[b];
-            word = bits::with_if(word, b, share(s, t));
-            b += 1;
-        }
-        rows[a] = word;
-        a += 1;
-    }
-}
-
-// Is there a letter that both sets hold.
-fn share(s: LetterSet, t: LetterSet) -> bool
-    requires { ⌜ ((c : ℕ) → hasLetter s c ≡ true → isLetter c ≡ true) ⌝ }
-    ensures { λ r. ⌜ r ≡ someLetter (λ c. hasLetter s c && hasLetter t c) ⌝ }
-{
-    !letters::is_empty(letters::intersection(s, t))
 }
 
 // Of a pattern without a pivot: steady where two readings part and both come to an end, else single.

@@ -1,0 +1,2 @@
+-- What tables say of a graph.
+pub mod Tables
