@@ -1,7 +1,6 @@
 // The nodes of a search and the steps between them. A node is two paths side by side over one text, in the graph of a pattern's
 // positions, as a number: below 64 a state, where both paths are and have not parted; a * 64 + b, with 1 <= b <= a, where they
-// have parted and are now at a and b. What is taken up is one set for the states, and for the pairs a row for each position: row a
-// has b, and row b has a, where the pair of a and b is. So whether a node is new is one bit, and the new partners of a are one word.
+// have parted and are now at a and b.
 ghost use mathlib.Core.Path.{_≡_};
 ghost use mathlib.Core.Bool.{true, not, _&&_, _||_};
 ghost use Prim.Native.Nat.{ℕ, _≤_, _<_};
@@ -44,7 +43,8 @@ pub fn next_new<'a>(
     new_pair(shares, seen, row(follow, a), row(follow, b), true)
 }
 
-// Takes the node y up besides: a pair in its rows, a state in the set that it gives.
+// Takes the node y up besides: a state in the set of states, which it gives, a pair in both of its rows, so that row a has b and
+// row b has a. So whether a node is new is one bit, and the new partners of a position are one word.
 pub fn take_up(seen: &mut [u64; 61], alone: u64, y: usize) -> u64
     requires { ⌜ IsNode y ⌝ }
     ensures { λ r. ⌜ TakenUp (now (seen .entry)) (now (seen .exit)) alone y r ⌝ }

@@ -1,6 +1,5 @@
-// A search, breadth first, from a state to a goal, in lent memory: over the nodes and steps of crate `nodes`. One from each position
-// finds the first pivot. What the lent memory held before is never read.
-use nodes::NONE;
+// A search, breadth first, from a state to a goal, over the nodes and steps of crate `nodes`, in lent memory. One from each position
+// finds the first pivot. The steps of a search, and what it holds between them, are private.
 ghost use mathlib.Core.Path.{_≡_};
 ghost use mathlib.Core.List.{List};
 ghost use Prim.Native.Nat.{ℕ, _≤_, _<_};
@@ -94,7 +93,7 @@ fn begin(scratch: &mut [u16], goal: Goal, start: usize) -> Search
 }
 
 // One visit: one node more is taken up, the first new one that is a step on from the head of the queue. A head with none is
-// passed. It is safe and ends whatever the state and the lent numbers hold.
+// passed. It is safe and ends whatever w and the lent numbers hold.
 fn visit<'a>(
     follow: &'a [u64; 61],
     shares: &'a [u64; 61],
@@ -120,7 +119,7 @@ fn visit<'a>(
     while head < tail {
         let x = scratch[head] as usize;
         let y = nodes::next_new(follow, shares, &*seen, alone, x);
-        if y < NONE {
+        if y < nodes::NONE {
             push(&mut *scratch, tail, y, head);
             return Search {
                 head,
@@ -148,6 +147,7 @@ fn push(scratch: &mut [u16], tail: usize, y: usize, from: usize)
     scratch[BACK + tail] = from as u16;
 }
 
+// Is the node x a goal: a pair in the set or, unless the goal is parted, a state in it.
 fn is_goal(goal: Goal, x: usize) -> bool
     requires { ⌜ x < 4096 ⌝ }
     ensures { λ r. ⌜ r ≡ isGoal goal x ⌝ }

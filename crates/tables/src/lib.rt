@@ -1,5 +1,5 @@
 // The tables that a search goes by, in rows of a word for each position: what may come next, which a built pattern has, and what
-// shares a letter with it, which is made here. Only the rows of positions say something.
+// shares a letter with it, which is made here.
 use letters::LetterSet;
 ghost use mathlib.Core.Path.{_≡_};
 ghost use mathlib.Core.Bool.{true, _&&_};

@@ -83,7 +83,7 @@ fn letter(sets: [LetterSet; 61], x: usize) -> u8
     letters::lowest(letters::intersection(s, t))
 }
 
-// Where the two paths of a node are.
+// Where one path of a node is, of a pair the one at the greater position.
 fn left(x: usize) -> usize
     ensures { λ r. ⌜ r ≡ leftOf x ⌝ }
 {
@@ -93,6 +93,7 @@ fn left(x: usize) -> usize
     x / 64
 }
 
+// Where its other path is.
 fn right(x: usize) -> usize
     ensures { λ r. ⌜ r ≡ rightOf x ⌝ }
 {
