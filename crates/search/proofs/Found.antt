@@ -27,7 +27,7 @@ use Rattle.verdict.proofs.Flags.{Node, node, start, pairs, Moves, Met, numberOf
 use Rattle.verdict.proofs.Parting.{parts-goal, goal-parts}
 use Rattle.search.specs.declared.Goal.{Goal}
 use Rattle.search.specs.declared.Search.{Search}
-use Rattle.tables.specs.Tables.{Rows, Shares}
+use Rattle.shares.specs.Tables.{Rows, Shares}
 use Rattle.nodes.specs.Nodes.{pack, leftOf, rightOf, goes, Step, single, beside, taken}
 use Rattle.search.specs.Search.{queue, isGoal, SoundQueue, Searched}
 use Rattle.nodes.proofs.Nodes.{sides, left-low, right-low, left-high, right-high}

@@ -17,7 +17,7 @@ use Rattle.graph.proofs.Walks.{position-of}
 use Rattle.verdict.specs.Pairs.{Pair, pair, shares, letterShown}
 use Rattle.verdict.proofs.Pairs.{Placed, Beside}
 use Rattle.verdict.proofs.Flags.{Node, node, Moves, same-at}
-use Rattle.tables.specs.Tables.{Rows, Shares}
+use Rattle.shares.specs.Tables.{Rows, Shares}
 use Rattle.nodes.specs.Nodes.{pack, leftOf, rightOf, goes, Step, single, beside}
 use Rattle.nodes.proofs.Nodes.{pack-swap, Places, sides, left-low, right-low}
 

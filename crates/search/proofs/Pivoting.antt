@@ -15,7 +15,7 @@ use Rattle.verdict.specs.Verdict.{partsTo, isPivot, firstPivot}
 use Rattle.verdict.proofs.Pivots.{pivot-none, pivot-is-first}
 use Rattle.search.specs.declared.Goal.{Goal}
 use Rattle.search.specs.declared.Search.{Search}
-use Rattle.tables.specs.Tables.{Rows, Shares}
+use Rattle.shares.specs.Tables.{Rows, Shares}
 use Rattle.search.specs.Search.{isGoal, Searching, Searched}
 use Rattle.search.proofs.Found.{goal-low, found-parts}
 

@@ -7,7 +7,7 @@ ghost use lib.ListN.{length, replicate};
 ghost use Rattle.graph.specs.Graph.{Graph};
 ghost use Rattle.verdict.specs.Verdict.{firstPivot};
 ghost use Rattle.search.specs.Search.{enqueue, isGoal, Tried, Searching, Searched};
-ghost use Rattle.tables.specs.Tables.{Rows, Shares};
+ghost use Rattle.shares.specs.Tables.{Rows, Shares};
 
 // A search under way. `head` and `tail` bound the queue of nodes taken up whose steps are still to be gone through. `alone` has the
 // states taken up. The pairs taken up are in rows beside it, `seen`, which are lent and not copied.

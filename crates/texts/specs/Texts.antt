@@ -8,7 +8,7 @@ use Rattle.basics.specs.Lists.{Apart, endOf, Chain}
 use Rattle.letters.specs.Alphabet.{someLetter, lowestLetter}
 use Rattle.letters.specs.declared.LetterSet.{LetterSet}
 use Rattle.nodes.specs.Nodes.{leftOf, rightOf, Step}
-use Rattle.tables.specs.Tables.{held}
+use Rattle.shares.specs.Tables.{held}
 use Rattle.search.specs.declared.Goal.{Goal}
 use Rattle.search.specs.Search.{queue, backOf, isGoal}
 

@@ -6,7 +6,7 @@ ghost use mathlib.Core.Path.{_≡_};
 ghost use Prim.Native.Nat.{ℕ, _+_, _≤_, _<_};
 ghost use lib.ListN.{length, getD};
 ghost use Rattle.nodes.specs.Nodes.{leftOf, rightOf, Step};
-ghost use Rattle.tables.specs.Tables.{Lettered};
+ghost use Rattle.shares.specs.Tables.{Lettered};
 ghost use Rattle.texts.specs.Texts.{letterAt, Showable, LeadsBack, Behind, Traced, Shown};
 
 // Stands for no text.

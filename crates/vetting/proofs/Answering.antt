@@ -36,7 +36,7 @@ use Rattle.search.specs.declared.Goal.{Goal}
 use Rattle.vetting.specs.declared.Vetted.{Vetted}
 use Rattle.nodes.specs.Nodes.{leftOf, rightOf, goes, Step, single, beside}
 use Rattle.search.specs.Search.{isGoal}
-use Rattle.tables.specs.Tables.{Rows, Shares, held}
+use Rattle.shares.specs.Tables.{Rows, Shares, held}
 use Rattle.texts.specs.Texts.{letterAt, Showable, written, ShownText, Shown}
 use Rattle.vetting.specs.Answers.{Vettable, vetted, Judged}
 use Rattle.nodes.proofs.Nodes.{left-low, right-low, sides}

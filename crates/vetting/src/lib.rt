@@ -7,7 +7,7 @@ ghost use Prim.Native.Nat.{_≤_, _<_};
 ghost use lib.ListN.{length};
 ghost use Rattle.graph.specs.Built.{graphOfBuilt};
 ghost use Rattle.verdict.specs.Verdict.{firstPivot};
-ghost use Rattle.tables.specs.Tables.{Shares};
+ghost use Rattle.shares.specs.Tables.{Shares};
 ghost use Rattle.vetting.specs.Answers.{Vettable, vetted, Judged};
 
 // What vetting gives: the refusal, or 0 and the verdict (0 single, 1 steady, 2 runaway), the number of positions, and the
@@ -30,7 +30,7 @@ pub fn vet(b: Built, evidence: &mut [u8], scratch: &mut [u16]) -> Vetted
     let follow = b.follow;
     let sets = b.letters;
     let mut shares = [0u64; 61];
-    tables::share_rows(sets, &mut shares, b.positions);
+    shares::share_rows(sets, &mut shares, b.positions);
     let q = search::first_pivot(&follow, &shares, &mut *scratch, b.positions);
     if q == 0 {
         return single_or_steady(b, &shares, &mut *evidence, &mut *scratch);

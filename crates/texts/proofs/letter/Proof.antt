@@ -2,9 +2,9 @@
 use mathlib.Core.Path.{ap₂, _∙_}
 use Rattle.letters.specs.Alphabet.{someLetter, lowestLetter}
 use Rattle.letters.specs.Table.{setAt}
-use Rattle.tables.specs.Tables.{held}
+use Rattle.shares.specs.Tables.{held}
 use Rattle.texts.specs.Texts.{letterAt}
-use Rattle.tables.proofs.Letters.{some-shared, lowest-shared}
+use Rattle.shares.proofs.Letters.{some-shared, lowest-shared}
 use borrow.Author.Needs.{needs}
 use Rattle.texts.proofs.letter.Statement.{statement}
 use Rattle.texts.proofs.letter.Tie as tie

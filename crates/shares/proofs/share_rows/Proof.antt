@@ -12,9 +12,9 @@ use Rattle.basics.proofs.Tests.{by-equal, one-further}
 use Rattle.bits.specs.Bits.{hasBit}
 use Rattle.bits.proofs.Laws.{has-none}
 use Rattle.letters.specs.Alphabet.{someLetter}
-use Rattle.tables.specs.Tables.{held}
-use Rattle.tables.proofs.share_rows.Statement.{statement}
-use Rattle.tables.proofs.share_rows.Tie as tie
+use Rattle.shares.specs.Tables.{held}
+use Rattle.shares.proofs.share_rows.Statement.{statement}
+use Rattle.shares.proofs.share_rows.Tie as tie
 
 abbrev Inv-loop2 : tie.InvT-loop2
 Inv-loop2 rows positions sets a s word₀ b₀ word b = (b ≤ positions + 1) × ((j : ℕ) → hasBit word j ≡ (ltb j b && someLetter (held sets a j)))

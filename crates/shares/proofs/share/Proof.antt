@@ -1,8 +1,8 @@
 -- The set of both is empty just where they share no letter. Assumes nothing.
-use Rattle.tables.proofs.Letters.{none-shared}
+use Rattle.shares.proofs.Letters.{none-shared}
 use borrow.Author.Needs.{needs}
-use Rattle.tables.proofs.share.Statement.{statement}
-use Rattle.tables.proofs.share.Tie as tie
+use Rattle.shares.proofs.share.Statement.{statement}
+use Rattle.shares.proofs.share.Tie as tie
 
 intersection-requires : tie.Need-intersection-requires
 intersection-requires c κs = search needs

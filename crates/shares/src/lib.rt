@@ -8,7 +8,7 @@ ghost use lib.ListN.{length, getD};
 ghost use Rattle.bits.specs.Bits.{hasBit};
 ghost use Rattle.letters.specs.Alphabet.{someLetter, isLetter};
 ghost use Rattle.letters.specs.LetterSet.{hasLetter};
-ghost use Rattle.tables.specs.Tables.{held, Lettered};
+ghost use Rattle.shares.specs.Tables.{held, Lettered};
 
 // The numbers up to `positions` whose sets share a letter with that of a, for every such a, in rows. The sets are read here and not
 // in a function of one row, which would copy them all.
