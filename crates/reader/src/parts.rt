@@ -117,15 +117,11 @@ fn piece(
     requires { ⌜ (n ≤ at) × Sized (now sets) (now credits) × Opens (now s) at ⌝ }
     ensures { λ r. ⌜ Parses pieceFrom 0 (now (s .entry)) at n (memory rows (now (sets .entry)) (now (credits .entry))) (memory (r .rows) (now (sets .exit)) (now (credits .exit))) (r .part) ⌝ }
 {
-    let p = pattern(s, at + 1, n, rows, sets, credits);
-    let mut all = p.rows;
+    let mut p = pattern(s, at + 1, n, rows, sets, credits);
     let inner = p.part;
     let atom = closed(s, inner);
-    let part = repeat(s, atom, &mut all);
-    ParsedRows {
-        part: part,
-        rows: all,
-    }
+    p.part = repeat(s, atom, &mut p.rows);
+    p
 }
 
 // A lettered atom with its repeat.

@@ -233,7 +233,7 @@ piece-same-length-2 : (t : ℕ) → piece-lts.Need-same-length-2 (piece-env t) (
 piece-same-length-2 t c = search needs
 
 piece-returns : (t : ℕ) → piece-lts.Need-returns (piece-env t) (piece-at t) piece.Post
-piece-returns t c = piece-open _ _ _ _ _ _ _ _ _ _ _ (c .before .before .before .before .before .before .before .before .before .before .before .before .before .before .before .pre .1 .2) (c .before .before .before .before .before .before .before .before .before .pattern .ensures) (c .before .before .closed .ensures _) (c .repeat .ensures .0)
+piece-returns t c = piece-open _ _ _ _ _ _ _ _ _ _ _ (c .before .before .before .before .before .before .before .before .before .before .before .before .before .before .pre .1 .2) (c .before .before .before .before .before .before .before .before .pattern .ensures) (c .before .before .closed .ensures _) (c .repeat .ensures .0)
 
 pub +branch+pattern+piece-spec : {M : Type 1} → statement M
 +branch+pattern+piece-spec = close μ-branch μ-pattern μ-piece (λ t. branch-lts.spec (branch-env t)
