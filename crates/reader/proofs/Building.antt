@@ -25,10 +25,10 @@ use Rattle.pattern.specs.Grammar.{noAtom}
 use Rattle.pattern.specs.Positions.{atoms, positions, atomAt, isFirst, isLast, follows, nextOf, lastOf, graphOf}
 use Rattle.pattern.proofs.Own.{first-own, last-own, follow-own}
 use Rattle.pattern.proofs.Bounds.{graph-bounded}
-use Rattle.reader.specs.Rows.{kept}
-use Rattle.reader.specs.Tables.{atomOf, Stored}
-use Rattle.reader.specs.Parsing.{shapeOf, Whole}
-use Rattle.reader.specs.declared.parts.ParsedRows.{ParsedRows}
+use Rattle.links.specs.Rows.{kept}
+use Rattle.parts.specs.Tables.{atomOf, Stored}
+use Rattle.parts.specs.Parsing.{shapeOf, Whole}
+use Rattle.parts.specs.declared.ParsedRows.{ParsedRows}
 
 pub none-shown : (none : LetterSet) → ((c : ℕ) → hasLetter none c ≡ false)
     → graphOfBuilt record { positions = 0; follow = replicate 61 0; lasts = 0; letters = replicate 61 none; credits = replicate 61 0 } ≡ noGraph

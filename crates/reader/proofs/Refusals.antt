@@ -18,9 +18,9 @@ use Rattle.graph.proofs.Bounds.{none-bounded}
 use Rattle.pattern.specs.Grammar.{readPattern, isPattern, patternPart}
 use Rattle.pattern.specs.Positions.{atoms, positions, patternGraph}
 use Rattle.pattern.specs.Refusals.{anyReversed, anyEmpty, patternRefusal, builtGraph}
-use Rattle.reader.specs.Parsing.{ParsesAll}
+use Rattle.parts.specs.Parsing.{ParsesAll}
 use Rattle.reader.specs.Read.{Reads, Refuses}
-use Rattle.reader.specs.declared.parts.Parsed.{Parsed}
+use Rattle.parts.specs.declared.Parsed.{Parsed}
 use Rattle.reader.specs.declared.ReadPattern.{ReadPattern}
 
 -- the number of the first test that passes, from k on, or 0

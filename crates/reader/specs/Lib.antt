@@ -1,5 +1,2 @@
--- What the functions of the reader promise.
-pub mod Rows
-pub mod Tables
-pub mod Parsing
+-- What reading a pattern gives.
 pub mod Read

@@ -8,8 +8,8 @@ use Rattle.graph.specs.declared.Built.{Built}
 use Rattle.pattern.specs.Parts.{Part}
 use Rattle.pattern.specs.Positions.{positions, graphOf}
 use Rattle.pattern.specs.Refusals.{patternRefusal, builtGraph}
-use Rattle.reader.specs.Parsing.{shapeOf, Whole}
-use Rattle.reader.specs.declared.parts.ParsedRows.{ParsedRows}
+use Rattle.parts.specs.Parsing.{shapeOf, Whole}
+use Rattle.parts.specs.declared.ParsedRows.{ParsedRows}
 use Rattle.reader.specs.declared.ReadPattern.{ReadPattern}
 
 pub record Reads (s : List ℕ) (r : ReadPattern) : Type 0 where

@@ -1,7 +1,4 @@
 // Reading a pattern: its refusal, or the built pattern. `read` takes any bytes.
-mod parts;
-mod rows;
-
 use graph::Built;
 use letters::table;
 use parts::ParsedRows;

@@ -1,0 +1,2 @@
+-- What sets and rows of positions say.
+pub mod Rows

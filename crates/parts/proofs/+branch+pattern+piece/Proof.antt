@@ -1,0 +1,281 @@
+use mathlib.Core.Path.{_≡_, refl, sym, ap, _∙_, subst}
+use mathlib.Core.Logic.{⊎-elim}
+use mathlib.Core.List.{List}
+use Prim.Native.Nat.{ℕ, _<_, _+_, _-_, _*_, _^_}
+use native.Mathlib.Omega.{arith}
+use lib.ListN.{length}
+use borrow.Author.Needs.{needs}
+use borrow.Author.Tests.{not-true, not-false}
+use Rattle.atoms.proofs.Places.{next-within}
+use Rattle.pattern.specs.Grammar.{pieceFrom}
+use Rattle.parts.specs.declared.Parsed.{Parsed}
+use Rattle.parts.specs.Tables.{Sized}
+use Rattle.parts.specs.Parsing.{Memory, memory, Parses}
+use Rattle.parts.proofs.Parsing.{parses-as, piece-letter, piece-open}
+use Rattle.parts.proofs.Folding.{BranchSofar, branch-begins, branch-ends, branch-goes, PatternSofar, pattern-begins, pattern-ends, pattern-goes}
+use borrow.Fn.Kinds.{In}
+use borrow.Fn.PlainCycle.{Measures, is, falls, and}
+use Rattle.parts.proofs.branch.Reads as branch
+use Rattle.parts.proofs.branch.Kinds as branch-kinds
+use Rattle.parts.proofs.+branch+pattern+piece.Lts-branch as branch-lts
+use Rattle.parts.proofs.pattern.Reads as pattern
+use Rattle.parts.proofs.pattern.Kinds as pattern-kinds
+use Rattle.parts.proofs.+branch+pattern+piece.Lts-pattern as pattern-lts
+use Rattle.parts.proofs.piece.Reads as piece
+use Rattle.parts.proofs.piece.Kinds as piece-kinds
+use Rattle.parts.proofs.+branch+pattern+piece.Lts-piece as piece-lts
+use Rattle.atoms.proofs.byte_at.Reads as byte-at-reads
+use Rattle.parts.proofs.closed.Reads as closed-reads
+use Rattle.parts.proofs.either.Reads as either-reads
+use Rattle.parts.proofs.goes_on.Reads as goes-on-reads
+use Rattle.parts.proofs.is_bar.Reads as is-bar-reads
+use Rattle.parts.proofs.join.Reads as join-reads
+use Rattle.parts.proofs.lettered.Reads as lettered-reads
+use Rattle.parts.proofs.nothing.Reads as nothing-reads
+use Rattle.parts.proofs.repeat.Reads as repeat-reads
+use Rattle.parts.proofs.+branch+pattern+piece.{statement}
+use Rattle.parts.proofs.+branch+pattern+piece.Tie.{close}
+
+abbrev μ-branch : Measures 3 branch-kinds.ps ℕ
+μ-branch κs a = 3 * (length (a .0 .now) - a .1 .0) + 1
+
+abbrev μ-pattern : Measures 3 pattern-kinds.ps ℕ
+μ-pattern κs a = 3 * (length (a .0 .now) - a .1 .0) + 2
+
+abbrev μ-piece : Measures 3 piece-kinds.ps ℕ
+μ-piece κs a = 3 * (length (a .0 .now) - a .1 .0) + 0
+
+abbrev branch-at : ℕ → In 3 branch-kinds.ps
+branch-at t = and 3 branch-kinds.ps (is 3 branch-kinds.ps μ-branch t) branch.Pre
+
+abbrev branch-below : ℕ → In 3 branch-kinds.ps
+branch-below t = and 3 branch-kinds.ps (falls 3 branch-kinds.ps _<_ μ-branch t) branch.Pre
+
+abbrev pattern-at : ℕ → In 3 pattern-kinds.ps
+pattern-at t = and 3 pattern-kinds.ps (is 3 pattern-kinds.ps μ-pattern t) pattern.Pre
+
+abbrev pattern-below : ℕ → In 3 pattern-kinds.ps
+pattern-below t = and 3 pattern-kinds.ps (falls 3 pattern-kinds.ps _<_ μ-pattern t) pattern.Pre
+
+abbrev piece-at : ℕ → In 3 piece-kinds.ps
+piece-at t = and 3 piece-kinds.ps (is 3 piece-kinds.ps μ-piece t) piece.Pre
+
+abbrev piece-below : ℕ → In 3 piece-kinds.ps
+piece-below t = and 3 piece-kinds.ps (falls 3 piece-kinds.ps _<_ μ-piece t) piece.Pre
+
+abbrev branch-Inv-loop : branch-lts.InvT-loop
+branch-Inv-loop s at n sets₀ credits₀ all₀ so-far₀ sets credits all so-far = (length all ≡ 61) × Sized sets credits × BranchSofar s at n (memory all₀ sets₀ credits₀) (memory all sets credits) so-far
+
+abbrev branch-μ-loop : branch-lts.MeasureT-loop
+branch-μ-loop s at n sets₀ credits₀ all₀ so-far₀ sets credits all so-far = length s - so-far .at
+
+abbrev branch-env : ℕ → branch-lts.Claims
+branch-env t = (nothing-reads.Asked, nothing-reads.Learnt, byte-at-reads.Asked, byte-at-reads.Learnt, piece-below t, piece.Post, lettered-reads.Asked, lettered-reads.Learnt, join-reads.Asked, join-reads.Learnt, goes-on-reads.Asked, goes-on-reads.Learnt)
+
+abbrev pattern-env : ℕ → pattern-lts.Claims
+pattern-env t = (nothing-reads.Asked, nothing-reads.Learnt, branch-below t, branch.Post, either-reads.Asked, either-reads.Learnt, is-bar-reads.Asked, is-bar-reads.Learnt)
+
+abbrev piece-env : ℕ → piece-lts.Claims
+piece-env t = (pattern-below t, pattern.Post, closed-reads.Asked, closed-reads.Learnt, repeat-reads.Asked, repeat-reads.Learnt)
+
+-- ---- a branch: what was read next is a piece, by either way
+
+module _ (t : ℕ) (c : branch-lts.Joined1 (branch-env t) (branch-at t) branch.Post branch-Inv-loop branch-μ-loop) where
+  abbrev loop-of : branch-lts.At-loop·own (branch-env t) (branch-at t) branch.Post branch-Inv-loop branch-μ-loop (c .before .before .before)
+  loop-of = c .before .before .loop
+
+  abbrev text : List ℕ
+  text = c .before .before .before .before .before .before .before .args .s .now
+
+  abbrev then : Memory
+  then = memory (loop-of .all) (loop-of .sets) (loop-of .credits)
+
+  next-parses : Parses pieceFrom 0 text (loop-of .so-far .at) (loop-of .so-far .n) then (memory (c .if1 .all) (c .if1 .sets) (c .if1 .credits)) (c .if1 .next)
+  next-parses =
+      ⊎-elim
+      (λ w. parses-as pieceFrom 0 text (loop-of .so-far .at) (loop-of .so-far .n) then (w .12) (w .10) (w .11) (w .13) (w .3 .ensures))
+      (λ w. parses-as pieceFrom 0 text (loop-of .so-far .at) (loop-of .so-far .n) then (w .11) (w .9) (w .10) (w .12)
+      (piece-letter text (loop-of .so-far .at) (loop-of .so-far .n) then _ _ (λ e. w .0 .left (c .before .byte-at .ensures ∙ e)) (w .4 .ensures .0)))
+      (c .if1 .came)
+
+  next-rows : length (c .if1 .all) ≡ 61
+  next-rows =
+      ⊎-elim (λ w. let l : length (w .3 .result .rows) ≡ 61 = search needs in ap length (w .12) ∙ l) (λ w. ap length (w .11) ∙ w .4 .ensures .1) (c .if1 .came)
+
+  next-sized : Sized (c .if1 .sets) (c .if1 .credits)
+  next-sized =
+      ⊎-elim
+      (λ w. record { sets-are = ap length (w .10) ∙ w .3 .kept .1 .1 .1 .1 .0 ∙ loop-of .inv .1 .sets-are; credits-are = ap length (w .11) ∙ w .3 .kept .1 .1 .1 .1 .1 .0 ∙ loop-of .inv .1 .credits-are })
+      (λ w. record { sets-are = ap length (w .9) ∙ w .4 .kept .1 .1 .1 .1 .0 ∙ loop-of .inv .1 .sets-are; credits-are = ap length (w .10) ∙ w .4 .kept .1 .1 .1 .1 .1 .0 ∙ loop-of .inv .1 .credits-are })
+      (c .if1 .came)
+
+branch-nothing-requires : (t : ℕ) → branch-lts.Need-nothing-requires (branch-env t) (branch-at t) branch.Post branch-Inv-loop branch-μ-loop
+branch-nothing-requires t c κs = search needs
+
+branch-loop-holds : (t : ℕ) → branch-lts.Need-loop-holds (branch-env t) (branch-at t) branch.Post branch-Inv-loop branch-μ-loop
+branch-loop-holds t c = (search needs, c .before .before .before .before .pre .1 .1, branch-begins _ _ _ _ (c .before .before .before .before .pre .1 .0) _ (c .nothing .ensures))
+
+branch-byte-at-requires : (t : ℕ) → branch-lts.Need-byte-at-requires (branch-env t) (branch-at t) branch.Post branch-Inv-loop branch-μ-loop
+branch-byte-at-requires t c κs = search needs
+
+branch-piece-requires : (t : ℕ) → branch-lts.Need-piece-requires (branch-env t) (branch-at t) branch.Post branch-Inv-loop branch-μ-loop
+branch-piece-requires t c κs =
+    let loop = c .before .before .before .before .loop in
+    let on = loop .inv .2 .on in
+    (omega arith, (loop .inv .2 .few, loop .inv .1, sym (c .before .before .before .byte-at .ensures) ∙ c .before .before .if1 .taken))
+
+branch-lettered-requires : (t : ℕ) → branch-lts.Need-lettered-requires (branch-env t) (branch-at t) branch.Post branch-Inv-loop branch-μ-loop
+branch-lettered-requires t c κs = let loop = c .before .before .before .before .before .loop in (loop .inv .2 .few, loop .inv .1, loop .inv .0)
+
+branch-join-requires : (t : ℕ) → branch-lts.Need-join-requires (branch-env t) (branch-at t) branch.Post branch-Inv-loop branch-μ-loop
+branch-join-requires t c κs = next-rows t (c .before)
+
+branch-goes-on-requires : (t : ℕ) → branch-lts.Need-goes-on-requires (branch-env t) (branch-at t) branch.Post branch-Inv-loop branch-μ-loop
+branch-goes-on-requires t c κs = search needs
+
+branch-same-length : (t : ℕ) → branch-lts.Need-same-length (branch-env t) (branch-at t) branch.Post branch-Inv-loop branch-μ-loop
+branch-same-length t c = next-sized t (c .before .before .before .before) .sets-are ∙ sym (c .before .before .before .before .before .before .before .before .before .before .before .pre .1 .1 .sets-are)
+
+branch-same-length-2 : (t : ℕ) → branch-lts.Need-same-length-2 (branch-env t) (branch-at t) branch.Post branch-Inv-loop branch-μ-loop
+branch-same-length-2 t c = next-sized t (c .before .before .before .before) .credits-are ∙ sym (c .before .before .before .before .before .before .before .before .before .before .before .pre .1 .1 .credits-are)
+
+branch-returns : (t : ℕ) → branch-lts.Need-returns (branch-env t) (branch-at t) branch.Post branch-Inv-loop branch-μ-loop
+branch-returns t c =
+    branch-ends _ _ _ _ _ _ _ _ _ _ (c .before .before .before .before .before .before .loop .inv .2) (next-parses t (c .before .before .before .before)) (c .before .before .join .ensures .0) (sym (c .before .goes-on .ensures) ∙ not-true (c .before .goes-on .result) (c .if2 .taken))
+
+branch-loop-less : (t : ℕ) → branch-lts.Need-loop-less (branch-env t) (branch-at t) branch.Post branch-Inv-loop branch-μ-loop
+branch-loop-less t c =
+    let more = branch-goes _ _ _ _ _ _ _ _ _ _ (c .before .before .before .before .before .before .loop .inv .2) (next-parses t (c .before .before .before .before)) (c .before .before .join .ensures .0) (sym (c .before .goes-on .ensures) ∙ not-false (c .before .goes-on .result) (c .if2 .left)) in
+    omega (arith, more .1, more .2)
+
+branch-loop-again : (t : ℕ) → branch-lts.Need-loop-again (branch-env t) (branch-at t) branch.Post branch-Inv-loop branch-μ-loop
+branch-loop-again t c =
+    let more = branch-goes _ _ _ _ _ _ _ _ _ _ (c .before .before .before .before .before .before .loop .inv .2) (next-parses t (c .before .before .before .before)) (c .before .before .join .ensures .0) (sym (c .before .goes-on .ensures) ∙ not-false (c .before .goes-on .result) (c .if2 .left)) in
+    (c .before .before .join .ensures .1, next-sized t (c .before .before .before .before), more .0)
+
+abbrev pattern-Inv-loop : pattern-lts.InvT-loop
+pattern-Inv-loop s at n sets₀ credits₀ all₀ so-far₀ sets credits all so-far = (length all ≡ 61) × Sized sets credits × PatternSofar s at n (memory all₀ sets₀ credits₀) (memory all sets credits) so-far
+
+abbrev pattern-μ-loop : pattern-lts.MeasureT-loop
+pattern-μ-loop s at n sets₀ credits₀ all₀ so-far₀ sets credits all so-far = length s - so-far .at
+
+pattern-nothing-requires : (t : ℕ) → pattern-lts.Need-nothing-requires (pattern-env t) (pattern-at t) pattern.Post pattern-Inv-loop pattern-μ-loop
+pattern-nothing-requires t c κs = search needs
+
+pattern-loop-holds : (t : ℕ) → pattern-lts.Need-loop-holds (pattern-env t) (pattern-at t) pattern.Post pattern-Inv-loop pattern-μ-loop
+pattern-loop-holds t c = (search needs, c .before .before .before .before .pre .1 .1, pattern-begins _ _ _ _ (c .before .before .before .before .pre .1 .0) _ (c .nothing .ensures))
+
+pattern-branch-requires : (t : ℕ) → pattern-lts.Need-branch-requires (pattern-env t) (pattern-at t) pattern.Post pattern-Inv-loop pattern-μ-loop
+pattern-branch-requires t c κs =
+    let loop = c .before .before .loop in
+    let on = loop .inv .2 .on in
+    (omega arith, (loop .inv .2 .few, loop .inv .1))
+
+pattern-either-requires : (t : ℕ) → pattern-lts.Need-either-requires (pattern-env t) (pattern-at t) pattern.Post pattern-Inv-loop pattern-μ-loop
+pattern-either-requires t c κs = search needs
+
+pattern-is-bar-requires : (t : ℕ) → pattern-lts.Need-is-bar-requires (pattern-env t) (pattern-at t) pattern.Post pattern-Inv-loop pattern-μ-loop
+pattern-is-bar-requires t c κs = search needs
+
+pattern-same-length : (t : ℕ) → pattern-lts.Need-same-length (pattern-env t) (pattern-at t) pattern.Post pattern-Inv-loop pattern-μ-loop
+pattern-same-length t c = c .before .before .before .before .before .before .before .before .before .branch .kept .1 .1 .1 .1 .0 ∙ c .before .before .before .before .before .before .before .before .before .before .before .before .loop .inv .1 .sets-are ∙ sym (c .before .before .before .before .before .before .before .before .before .before .before .before .before .before .before .before .before .pre .1 .1 .sets-are)
+
+pattern-same-length-2 : (t : ℕ) → pattern-lts.Need-same-length-2 (pattern-env t) (pattern-at t) pattern.Post pattern-Inv-loop pattern-μ-loop
+pattern-same-length-2 t c = c .before .before .before .before .before .before .before .before .before .branch .kept .1 .1 .1 .1 .1 .0 ∙ c .before .before .before .before .before .before .before .before .before .before .before .before .loop .inv .1 .credits-are ∙ sym (c .before .before .before .before .before .before .before .before .before .before .before .before .before .before .before .before .before .pre .1 .1 .credits-are)
+
+pattern-returns : (t : ℕ) → pattern-lts.Need-returns (pattern-env t) (pattern-at t) pattern.Post pattern-Inv-loop pattern-μ-loop
+pattern-returns t c =
+    pattern-ends _ _ _ _ _ _ _ _ _ (c .before .before .before .before .before .before .before .before .before .before .before .before .loop .inv .2) (c .before .before .before .before .before .before .before .before .before .branch .ensures) (c .before .before .either .ensures) (sym (c .before .is-bar .ensures) ∙ not-true (c .before .is-bar .result) (c .if1 .taken))
+
+-- a text has fewer bytes than a number can count
+text-fits : (t : ℕ) (c : pattern-lts.After-shared-slice-known (pattern-env t) (pattern-at t) pattern.Post pattern-Inv-loop pattern-μ-loop) → length (c .before .args .s .now) < 2 ^ 64
+text-fits t c = omega arith
+
+pattern-add-so-far : (t : ℕ) → pattern-lts.Need-add-so-far (pattern-env t) (pattern-at t) pattern.Post pattern-Inv-loop pattern-μ-loop
+pattern-add-so-far t c =
+    let more = pattern-goes _ _ _ _ _ _ _ _ _ (c .before .before .before .before .before .before .before .before .before .before .before .before .before .loop .inv .2) (c .before .before .before .before .before .before .before .before .before .before .branch .ensures) (c .before .before .before .either .ensures) (sym (c .before .before .is-bar .ensures) ∙ not-false (c .before .before .is-bar .result) (c .before .if1 .left)) in
+    omega (arith, more .2, text-fits t (c .before .before .before .before .before .before .before .before .before .before .before .before .before .before .before .before .before))
+
+pattern-loop-less : (t : ℕ) → pattern-lts.Need-loop-less (pattern-env t) (pattern-at t) pattern.Post pattern-Inv-loop pattern-μ-loop
+pattern-loop-less t c =
+    let more = pattern-goes _ _ _ _ _ _ _ _ _ (c .before .before .before .before .before .before .before .before .before .before .before .before .before .loop .inv .2) (c .before .before .before .before .before .before .before .before .before .before .branch .ensures) (c .before .before .before .either .ensures) (sym (c .before .before .is-bar .ensures) ∙ not-false (c .before .before .is-bar .result) (c .before .if1 .left)) in
+    omega (arith, more .1, more .2)
+
+pattern-loop-again : (t : ℕ) → pattern-lts.Need-loop-again (pattern-env t) (pattern-at t) pattern.Post pattern-Inv-loop pattern-μ-loop
+pattern-loop-again t c =
+    let more = pattern-goes _ _ _ _ _ _ _ _ _ (c .before .before .before .before .before .before .before .before .before .before .before .before .before .loop .inv .2) (c .before .before .before .before .before .before .before .before .before .before .branch .ensures) (c .before .before .before .either .ensures) (sym (c .before .before .is-bar .ensures) ∙ not-false (c .before .before .is-bar .result) (c .before .if1 .left)) in
+    let b = c .before .before .before .before .before .before .before .before .before .before .branch in
+    let sized = c .before .before .before .before .before .before .before .before .before .before .before .before .before .loop .inv .1 in
+    (search needs, record { sets-are = b .kept .1 .1 .1 .1 .0 ∙ sized .sets-are; credits-are = b .kept .1 .1 .1 .1 .1 .0 ∙ sized .credits-are }, more .0)
+
+piece-add-pattern : (t : ℕ) → piece-lts.Need-add-pattern (piece-env t) (piece-at t) piece.Post
+piece-add-pattern t c =
+    let start = c .before .before .before in
+    let inside = next-within (start .args .s .now) (start .args .at) (omega (arith, start .pre .1 .2)) in
+    omega arith
+
+piece-pattern-requires : (t : ℕ) → piece-lts.Need-pattern-requires (piece-env t) (piece-at t) piece.Post
+piece-pattern-requires t c κs =
+    let start = c .before .before .before .before .before in
+    let inside = next-within (start .args .s .now) (start .args .at) (omega (arith, start .pre .1 .2)) in
+    (omega arith, (omega arith, start .pre .1 .1))
+
+piece-closed-requires : (t : ℕ) → piece-lts.Need-closed-requires (piece-env t) (piece-at t) piece.Post
+piece-closed-requires t c κs = search needs
+
+piece-repeat-requires : (t : ℕ) → piece-lts.Need-repeat-requires (piece-env t) (piece-at t) piece.Post
+piece-repeat-requires t c κs = search needs
+
+piece-same-length : (t : ℕ) → piece-lts.Need-same-length (piece-env t) (piece-at t) piece.Post
+piece-same-length t c = search needs
+
+piece-same-length-2 : (t : ℕ) → piece-lts.Need-same-length-2 (piece-env t) (piece-at t) piece.Post
+piece-same-length-2 t c = search needs
+
+piece-returns : (t : ℕ) → piece-lts.Need-returns (piece-env t) (piece-at t) piece.Post
+piece-returns t c = piece-open _ _ _ _ _ _ _ _ _ _ _ (c .before .before .before .before .before .before .before .before .before .before .before .before .before .before .pre .1 .2) (c .before .before .before .before .before .before .before .before .pattern .ensures) (c .before .before .closed .ensures _) (c .repeat .ensures .0)
+
+pub +branch+pattern+piece-spec : {M : Type 1} → statement M
++branch+pattern+piece-spec = close μ-branch μ-pattern μ-piece (λ t. branch-lts.spec (branch-env t)
+    (branch-at t)
+    branch.Post
+    branch-Inv-loop
+    branch-μ-loop
+    (branch-nothing-requires t)
+    (branch-loop-holds t)
+    (branch-byte-at-requires t)
+    (branch-piece-requires t)
+    (branch-lettered-requires t)
+    (branch-join-requires t)
+    (branch-goes-on-requires t)
+    (branch-same-length t)
+    (branch-same-length-2 t)
+    (branch-returns t)
+    (branch-loop-less t)
+    (branch-loop-again t))
+    (λ t. pattern-lts.spec (pattern-env t)
+    (pattern-at t)
+    pattern.Post
+    pattern-Inv-loop
+    pattern-μ-loop
+    (pattern-nothing-requires t)
+    (pattern-loop-holds t)
+    (pattern-branch-requires t)
+    (pattern-either-requires t)
+    (pattern-is-bar-requires t)
+    (pattern-same-length t)
+    (pattern-same-length-2 t)
+    (pattern-returns t)
+    (pattern-add-so-far t)
+    (pattern-loop-less t)
+    (pattern-loop-again t))
+    λ t. piece-lts.spec (piece-env t)
+    (piece-at t)
+    piece.Post
+    (piece-add-pattern t)
+    (piece-pattern-requires t)
+    (piece-closed-requires t)
+    (piece-repeat-requires t)
+    (piece-same-length t)
+    (piece-same-length-2 t)
+    (piece-returns t)
