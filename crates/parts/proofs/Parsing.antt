@@ -23,7 +23,7 @@ use Rattle.atoms.specs.Atoms.{ReadsAtom}
 use Rattle.atoms.proofs.Places.{next-within}
 use Rattle.parts.specs.declared.Parsed.{Parsed}
 use Rattle.links.specs.Rows.{Marks, Linked}
-use Rattle.parts.specs.Parsing.{Shape, shapeOf, Memory, memory, Has, Gives, StandsFor, Stands, Parses, Letters, both, barNext, closedRead, Changes, Repeats}
+use Rattle.parts.specs.Parsing.{Shape, shapeOf, Memory, memory, Has, StandsFor, Stands, Parses, Letters, both, barNext, closedRead, Changes, Repeats}
 use Rattle.parts.proofs.Storing.{Sets, Past, one-stored}
 use Rattle.parts.proofs.Joining.{has-letter, has-at, has-again}
 

@@ -2,7 +2,7 @@
 -- gives the shape that the grammar, which nests to the right, has. Assumes nothing.
 use mathlib.Core.Path.{_≡_, refl, sym, ap, _∙_}
 use mathlib.Core.Bool.{Bool, true, false, _&&_, _||_, and-false, and-assoc, or-false, or-assoc}
-use mathlib.Core.List.{List, [], append-assoc, _++_}
+use mathlib.Core.List.{[], append-assoc, _++_}
 use Prim.Native.Nat.{ℕ, _+_}
 use native.Mathlib.Nat.{add-zero, add-assoc}
 use lib.ListN.{length, length-append}

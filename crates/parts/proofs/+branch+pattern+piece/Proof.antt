@@ -1,4 +1,4 @@
-use mathlib.Core.Path.{_≡_, refl, sym, ap, _∙_, subst}
+use mathlib.Core.Path.{_≡_, sym, ap, _∙_}
 use mathlib.Core.Logic.{⊎-elim}
 use mathlib.Core.List.{List}
 use Prim.Native.Nat.{ℕ, _<_, _+_, _-_, _*_, _^_}
@@ -8,7 +8,6 @@ use borrow.Author.Needs.{needs}
 use borrow.Author.Tests.{not-true, not-false}
 use Rattle.atoms.proofs.Places.{next-within}
 use Rattle.pattern.specs.Grammar.{pieceFrom}
-use Rattle.parts.specs.declared.Parsed.{Parsed}
 use Rattle.parts.specs.Tables.{Sized}
 use Rattle.parts.specs.Parsing.{Memory, memory, Parses}
 use Rattle.parts.proofs.Parsing.{parses-as, piece-letter, piece-open}

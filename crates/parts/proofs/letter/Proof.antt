@@ -1,6 +1,6 @@
 -- The atom's contract, and the position's for its set. It takes a byte, so that the number of positions stays below the place.
 -- Where the tables have an entry for it, both get it. Assumes nothing.
-use mathlib.Core.Path.{_≡_, refl, sym, ap, _∙_, subst}
+use mathlib.Core.Path.{refl, sym, ap, _∙_, subst}
 use mathlib.Core.Logic.{_⊎_, inl, inr, ⊎-elim}
 use mathlib.Core.List.{List}
 use Prim.Native.Nat.{ℕ, _+_}
@@ -9,7 +9,6 @@ use lib.ListN.{length, length-set}
 use borrow.Author.Needs.{needs}
 use borrow.Author.Tests.{not-true, not-false}
 use Rattle.letters.specs.Table.{Puts}
-use Rattle.parts.proofs.Storing.{Sets, Past}
 use Rattle.parts.proofs.Parsing.{stands-not, letter-stands}
 use Rattle.parts.proofs.letter.Statement.{statement}
 use Rattle.parts.proofs.letter.Tie as tie
