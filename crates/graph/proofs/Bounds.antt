@@ -26,7 +26,7 @@ none-bounded = record {
 }
 
 -- a word whose members are all at most 60
-below : (m : ℕ) → m < 2 ^ 64 → ((j : ℕ) → hasBit m j ≡ true → j ≤ 60) → m < 2 ^ 61
+pub below : (m : ℕ) → m < 2 ^ 64 → ((j : ℕ) → hasBit m j ≡ true → j ≤ 60) → m < 2 ^ 61
 below m l h = lt-of-high 61 m l (λ j k. by-test (hasBit m j) (λ e. absurd (omega (arith, h j e))) (λ e. e))
 
 module _ (b : Built) (h : Bounded (graphOfBuilt b)) where

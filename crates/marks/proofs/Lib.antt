@@ -1,4 +1,3 @@
 pub mod Values
-pub mod Onward
-pub mod Columns
-pub mod Fills
+pub mod Forward
+pub mod Shown

@@ -1,3 +1,2 @@
--- Marking: rows of a table over the states, and the tables that a built pattern is turned into.
-pub mod Rows
-pub mod Tables
+-- Marking: what rows say of an answer.
+pub mod Answers

@@ -6,20 +6,21 @@ use mir.Val.{Fits}
 use mir.Syntax.{w64}
 use lib.ListN.{getD}
 use Rattle.graph.specs.Graph.{Graph, Bounded}
-use Rattle.marks.specs.Rows.{Answered}
-use Rattle.marks.proofs.Columns.{follow-low, holders-low, tables-show}
+use Rattle.graph.proofs.Bounds.{row-below}
+use Rattle.marks.specs.Answers.{Answered}
+use Rattle.marks.proofs.Shown.{holders-low, tables-show}
 use borrow.Author.Needs.{needs}
 use Rattle.marks.proofs.mark.Statement.{statement}
 use Rattle.marks.proofs.mark.Tie as tie
 
 states-before-requires : tie.Need-states-before-requires
-states-before-requires c κs u =
-    let b = c .before .before .before .args .t1 in
-    let f : Fits w64 (getD (b .follow) u 0) = search needs in
-    follow-low b (c .before .before .before .pre .0) u (f .fits)
+states-before-requires c κs =
+    let s = c .before .before .before in
+    let b = s .args .t1 in
+    (s .pre .0 .few, λ u. let f : Fits w64 (getD (b .follow) u 0) = search needs in row-below b (s .pre .0) u (f .fits))
 
 holders-of-requires : tie.Need-holders-of-requires
-holders-of-requires c κs = search needs
+holders-of-requires c κs = c .before .before .before .before .before .pre .0 .few
 
 slice-aggregate-run : tie.Need-slice-aggregate-run
 slice-aggregate-run c = search needs

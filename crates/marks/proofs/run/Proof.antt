@@ -8,13 +8,12 @@ use native.Mathlib.Numerals.{add-one}
 use native.Mathlib.Omega.{arith}
 use lib.Bits.{and-le-l}
 use lib.Dec.{eqb}
-use lib.ListN.{length, getD, set, take, drop, length-set, take-append-drop}
+use lib.ListN.{length, getD, take, drop, length-set, take-append-drop}
 use lib.Seq.{getD-set-same, take-suc, take-all, length-take-le}
 use borrow.Author.Tests.{eqb-true, not-false}
 use Rattle.graph.specs.Graph.{Bounded}
-use Rattle.marks.specs.Rows.{Row}
-use Rattle.marks.specs.Tables.{tables}
-use Rattle.marks.proofs.Onward.{row-begin, row-on, row-stop, row-end}
+use Rattle.marks.specs.Answers.{Row, graphOfTables}
+use Rattle.marks.proofs.Forward.{row-begin, row-on, row-stop, row-end}
 use Rattle.marks.proofs.run.Statement.{statement}
 use Rattle.marks.proofs.run.Tie as tie
 
@@ -25,7 +24,7 @@ record Running (counts₀ best₀ answer holders before : List ℕ) (lasts : ℕ
   pub turn : (from ≡ 0) ⊎ (from ≡ 61)
   pub sizeC : length counts ≡ length counts₀
   pub sizeB : length best ≡ length best₀
-  pub row : (positions : ℕ) → Bounded (tables positions holders before lasts credits) → Row (tables positions holders before lasts credits) (take k answer) from active counts best
+  pub row : (positions : ℕ) → Bounded (graphOfTables positions holders before lasts credits) → Row (graphOfTables positions holders before lasts credits) (take k answer) from active counts best
 
 abbrev Inv-loop : tie.InvT-loop
 Inv-loop counts₀ best₀ answer holders before lasts credits active₀ from₀ k₀ counts best active from k = Running counts₀ best₀ answer holders before lasts credits counts best active from k
@@ -49,7 +48,7 @@ loop-holds c =
       sizeC = refl;
       sizeB = refl;
       row = λ p _.
-          row-begin (tables p (a .holders .now) (a .before .now) (a .lasts) (a .credits .now)) 0 _ _ (getD-set-same (a .counts .now) 0 1 0 (omega arith))
+          row-begin (graphOfTables p (a .holders .now) (a .before .now) (a .lasts) (a .credits .now)) 0 _ _ (getD-set-same (a .counts .now) 0 1 0 (omega arith))
           (getD-set-same (a .best .now) 0 0 0 (omega arith));
     }
 
@@ -105,9 +104,9 @@ loop-again c =
       sizeC = st .ensures .counted .size ∙ at .inv .sizeC;
       sizeB = st .ensures .marked .size ∙ at .inv .sizeB;
       row = λ p bounded.
-          subst (λ (x : List ℕ). Row (tables p (a .holders .now) (a .before .now) (a .lasts) (a .credits .now)) x (61 - at .from) (st .result) (st .last .0) (st .last .1 .0))
+          subst (λ (x : List ℕ). Row (graphOfTables p (a .holders .now) (a .before .now) (a .lasts) (a .credits .now)) x (61 - at .from) (st .result) (st .last .0) (st .last .1 .0))
           (sym (ap (λ (n : ℕ). take n (a .answer .now)) (add-one (at .k)) ∙ take-suc (a .answer .now) (at .k) 0 more))
-          (row-on (tables p (a .holders .now) (a .before .now) (a .lasts) (a .credits .now)) bounded b (a .before .now) (a .credits .now) (at .from) (61 - at .from) (at .active) (getD (a .holders .now) b 0) (st .result) (at .counts) (at .best) (st .last .0) (st .last .1 .0) q
+          (row-on (graphOfTables p (a .holders .now) (a .before .now) (a .lasts) (a .credits .now)) bounded b (a .before .now) (a .credits .now) (at .from) (61 - at .from) (at .active) (getD (a .holders .now) b 0) (st .result) (at .counts) (at .best) (st .last .0) (st .last .1 .0) q
           (λ u i. refl) (λ i. refl) (λ i. refl) (at .inv .small) (omega (arith, length-take-le (at .k) (a .answer .now) (at .inv .within), s .pre .2)) (at .inv .row p bounded) (st .ensures));
     }
 
@@ -133,7 +132,7 @@ returns c p bounded =
     let at = c .before .before .before .before .loop in
     let a = c .before .before .before .before .before .before .before .before .args in
     let s = a .answer .now in
-    let g = tables p (a .holders .now) (a .before .now) (a .lasts) (a .credits .now) in
+    let g = graphOfTables p (a .holders .now) (a .before .now) (a .lasts) (a .credits .now) in
     let row = at .inv .row p bounded in
     let whole : Row g s (at .from) (at .active) (at .counts) (at .best) =
     ⊎-elim

@@ -4,9 +4,9 @@ use Prim.Native.Nat.{ℕ, _<_, _^_}
 use native.Mathlib.Omega.{arith}
 use Rattle.bits.specs.Bits.{hasBit}
 use Rattle.bits.proofs.Laws.{has-none, member-below}
-use Rattle.marks.proofs.Columns.{Entering, enter-start, enter-on, enter-end}
-use Rattle.marks.proofs.enter.Statement.{statement}
-use Rattle.marks.proofs.enter.Tie as tie
+use Rattle.columns.proofs.Columns.{Entering, enter-start, enter-on, enter-end}
+use Rattle.columns.proofs.enter.Statement.{statement}
+use Rattle.columns.proofs.enter.Tie as tie
 
 abbrev Inv-loop : tie.InvT-loop
 Inv-loop table₀ members j left₀ table left = (left < 2 ^ 61) × Entering (hasBit members) (hasBit left) j table₀ table

@@ -16,7 +16,7 @@ use Rattle.basics.proofs.Folds.{fold-same}
 use Rattle.bits.specs.Bits.{hasBit, Least}
 use Rattle.bits.proofs.Laws.{has-none, has-high, lt-of-high, member-below}
 use Rattle.bits.proofs.Walk.{any-turn, walk-end, kept}
-use Rattle.marks.specs.Rows.{cell, stored, arriving, newCount, newCredit, Outside, Filled, Stepped}
+use Rattle.frontier.specs.Rows.{cell, stored, arriving, newCount, newCredit, Outside, Filled, Stepped}
 
 pub fill-start : (to : ℕ) (v : ℕ → ℕ) (xs : List ℕ) → Filled to 0 v xs xs
 fill-start to v xs = record { size = refl; made = λ i e. absurd (false≢true (sym (has-none i) ∙ e)); kept = λ j o. refl }

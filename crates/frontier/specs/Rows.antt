@@ -1,18 +1,15 @@
 -- Rows over the states, in memory that may hold anything else. A row is a set of possible states and, from an offset on, 61 counts
--- and 61 credits, of which only those of possible states mean anything. What a row says is said of every way that the answer can
--- go on: from the row alone the count and the mark of the whole answer follow.
+-- and 61 credits, of which only those of possible states mean anything.
 use mathlib.Core.Path.{_≡_}
 use mathlib.Core.Bool.{true, _&&_}
-use mathlib.Core.List.{List, _++_}
-use Prim.Native.Nat.{ℕ, _+_, _*_, _%_, _^_, _≤_, _<_, min}
+use mathlib.Core.List.{List}
+use Prim.Native.Nat.{ℕ, _+_, _%_, _^_, _<_, min}
 use lib.Bits.{bitAnd}
 use lib.Dec.{ltb}
 use lib.ListN.{length, getD, set}
 use Rattle.basics.specs.Choice.{if_then_else_}
 use Rattle.basics.specs.Folds.{sumIf, mostIf}
 use Rattle.bits.specs.Bits.{hasBit}
-use Rattle.graph.specs.Graph.{Graph}
-use Rattle.graph.specs.Readings.{countFrom, readings, added, bestFrom, mark}
 
 -- entry u of the row that begins at `from`
 abbrev pub cell : List ℕ → ℕ → ℕ → ℕ
@@ -24,12 +21,6 @@ countOf m row = min (sumIf (hasBit m) row 61) (2 ^ 63)
 
 abbrev pub mostOf : ℕ → (ℕ → ℕ) → ℕ
 mostOf m row = mostIf (hasBit m) row 61
-
--- after the letters s, in the graph g
-pub record Row (g : Graph) (s : List ℕ) (from active : ℕ) (counts best : List ℕ) : Type 0 where
-  pub counted : (t : List ℕ) → countOf active (λ u. cell counts from u * countFrom g u t) ≡ min (readings g (s ++ t)) (2 ^ 63)
-  pub marked : (t : List ℕ) → mostOf active (λ u. added (cell best from u) (bestFrom g u t)) ≡ bestFrom g 0 (s ++ t)
-  pub low : (u : ℕ) → hasBit active u ≡ true → cell best from u ≤ 9 * length s
 
 -- ---- one letter on
 
@@ -64,10 +55,3 @@ pub record Stepped (before credits : List ℕ) (from to active holds : ℕ) (cou
   pub states : (i : ℕ) → hasBit r i ≡ (hasBit holds i && ltb 0 (arriving before active i))
   pub counted : Filled to r (newCount before active from counts) counts counts′
   pub marked : Filled to r (newCredit before credits active from best) best best′
-
--- ---- the answer
-
--- [Counts] [Marks] the number of readings, 2 ^ 63 where it is that or more, and the mark
-pub record Answered (g : Graph) (s : List ℕ) (count most : ℕ) : Type 0 where
-  pub counts : count ≡ min (readings g s) (2 ^ 63)
-  pub marks : most ≡ mark g s

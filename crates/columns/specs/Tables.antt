@@ -6,7 +6,6 @@ use Prim.Native.Nat.{ℕ}
 use lib.Dec.{eqb, ltb}
 use lib.ListN.{length, getD}
 use Rattle.bits.specs.Bits.{hasBit}
-use Rattle.graph.specs.Graph.{Graph}
 
 -- entry x of the table is the set of those j below n whose row has x
 abbrev pub Columns : (ℕ → ℕ → Bool) → ℕ → List ℕ → Type 0
@@ -16,13 +15,3 @@ Columns row n table = (x j : ℕ) → hasBit (getD table x 0) j ≡ (ltb j n && 
 pub record Entered (p : ℕ → Bool) (j : ℕ) (table table′ : List ℕ) : Type 0 where
   pub size : length table′ ≡ length table
   pub has : (x i : ℕ) → hasBit (getD table′ x 0) i ≡ (hasBit (getD table x 0) i || (p x && eqb j i))
-
--- the graph that the tables show
-abbrev pub tables : ℕ → List ℕ → List ℕ → ℕ → List ℕ → Graph
-tables positions holders before lasts credits = record {
-  positions = positions;
-  next = λ u i. hasBit (getD before i 0) u;
-  last = λ u. hasBit lasts u;
-  holds = λ i b. hasBit (getD holders b 0) i;
-  credit = λ i. getD credits i 0;
-}

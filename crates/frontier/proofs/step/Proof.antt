@@ -4,9 +4,9 @@ use native.Mathlib.Omega.{arith}
 use lib.Bits.{and-le-r}
 use lib.ListN.{getD}
 use Rattle.bits.proofs.Laws.{member-below}
-use Rattle.marks.proofs.Fills.{Filling, filling-start, filling-on, filling-end}
-use Rattle.marks.proofs.step.Statement.{statement}
-use Rattle.marks.proofs.step.Tie as tie
+use Rattle.frontier.proofs.Fills.{Filling, filling-start, filling-on, filling-end}
+use Rattle.frontier.proofs.step.Statement.{statement}
+use Rattle.frontier.proofs.step.Tie as tie
 
 abbrev Inv-loop : tie.InvT-loop
 Inv-loop counts₀ best₀ from to active holds before credits left₀ out₀ counts best left out = Filling before credits from to active holds counts₀ best₀ counts best left out

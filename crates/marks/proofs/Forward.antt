@@ -22,7 +22,8 @@ use Rattle.bits.proofs.Walk.{sum-turn, most-turn, walk-end}
 use Rattle.graph.specs.Graph.{Graph, isPosition, step, Bounded}
 use Rattle.graph.specs.Readings.{countFrom, readings, added, bestFrom}
 use Rattle.graph.proofs.Walks.{position-of}
-use Rattle.marks.specs.Rows.{cell, countOf, mostOf, Row, arriving, Stepped, Answered}
+use Rattle.frontier.specs.Rows.{cell, countOf, mostOf, arriving, Stepped}
+use Rattle.marks.specs.Answers.{Row, Answered}
 use Rattle.marks.proofs.Values.{sum-cut, sum-times, added-max, added-twice, most-less, most-added}
 
 -- ---- one letter on

@@ -6,9 +6,9 @@ use Rattle.basics.specs.Folds.{sumIf}
 use Rattle.bits.specs.Bits.{hasBit}
 use Rattle.bits.proofs.Laws.{member-below}
 use Rattle.bits.proofs.Walk.{sum-turn, most-turn, walk-end}
-use Rattle.marks.specs.Rows.{cell, countOf, mostOf}
-use Rattle.marks.proofs.gather.Statement.{statement}
-use Rattle.marks.proofs.gather.Tie as tie
+use Rattle.frontier.specs.Rows.{cell, countOf, mostOf}
+use Rattle.frontier.proofs.gather.Statement.{statement}
+use Rattle.frontier.proofs.gather.Tie as tie
 
 abbrev Inv-loop : tie.InvT-loop
 Inv-loop counts best from members left₀ count₀ most₀ left count most =

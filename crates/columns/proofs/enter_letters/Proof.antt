@@ -2,9 +2,9 @@
 use borrow.Author.Tests.{not-true, not-false}
 use native.Mathlib.Omega.{arith}
 use Rattle.letters.specs.LetterSet.{hasLetter, weight}
-use Rattle.marks.proofs.Columns.{Entering, enter-start, enter-on, enter-end}
-use Rattle.marks.proofs.enter_letters.Statement.{statement}
-use Rattle.marks.proofs.enter_letters.Tie as tie
+use Rattle.columns.proofs.Columns.{Entering, enter-start, enter-on, enter-end}
+use Rattle.columns.proofs.enter_letters.Statement.{statement}
+use Rattle.columns.proofs.enter_letters.Tie as tie
 
 abbrev Inv-loop : tie.InvT-loop
 Inv-loop table₀ j left₀ table left = Entering (hasLetter left₀) (hasLetter left) j table₀ table

@@ -2,9 +2,9 @@
 use mathlib.Core.Path.{ap, _∙_}
 use Prim.Native.Nat.{ℕ, _+_, _%_, _^_}
 use borrow.Author.Needs.{needs}
-use Rattle.marks.proofs.Fills.{stored-none, stored-some}
-use Rattle.marks.proofs.fill.Statement.{statement}
-use Rattle.marks.proofs.fill.Tie as tie
+use Rattle.frontier.proofs.Fills.{stored-none, stored-some}
+use Rattle.frontier.proofs.fill.Statement.{statement}
+use Rattle.frontier.proofs.fill.Tie as tie
 
 returns : tie.Need-returns
 returns c =

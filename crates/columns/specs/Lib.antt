@@ -1,0 +1,2 @@
+-- Tables over the positions and over the letters.
+pub mod Tables

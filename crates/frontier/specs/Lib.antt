@@ -1,0 +1,2 @@
+-- Rows of counts and credits over the states.
+pub mod Rows
