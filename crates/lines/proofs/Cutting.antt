@@ -1,5 +1,5 @@
 -- The input cut into its patterns: the bytes of a pattern are passed one by one up to a byte 10 or the input's end. Assumes nothing.
-use mathlib.Core.Path.{_≡_, refl, sym, ap, _∙_, subst}
+use mathlib.Core.Path.{_≡_, refl, sym, ap, _∙_}
 use mathlib.Core.List.{List, [], _∷_, _++_}
 use Prim.Native.Nat.{ℕ, suc, _+_, _-_, _≤_, _<_}
 use native.Mathlib.Numerals.{add-one}
@@ -9,7 +9,7 @@ use lib.ListN.{length, take, drop, getD, length-drop, drop-of-length-le}
 use lib.Seq.{drop-cons, take-suc, getD-drop, length-take-le}
 use borrow.Author.Tests.{eq-eqb, ne-eqb}
 use Rattle.basics.proofs.Tests.{if-yes, if-no}
-use Rattle.lines.specs.Lines.{lastPattern, patternsFrom, patternsOf}
+use Rattle.lines.specs.Lines.{patternsFrom, patternsOf}
 
 -- a byte of a pattern, and a byte 10
 byte-on : (p s : List ℕ) (b : ℕ) → (b ≡ 10 → ⊥) → patternsFrom p (b ∷ s) ≡ patternsFrom (p ++ (b ∷ [])) s

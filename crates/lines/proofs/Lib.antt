@@ -1,5 +1,3 @@
-pub mod Putting
-pub mod Fields
 pub mod Cutting
 pub mod Vetting
 pub mod Stepping

@@ -6,9 +6,10 @@ use native.Mathlib.Omega.{arith}
 use lib.ListN.{length, take, drop, length-drop}
 use lib.Seq.{length-take-le}
 use Rattle.io.specs.Counts.{Counts}
-use Rattle.lines.specs.Lines.{lineOf, tooLong, Puts, EndsAt, HasLine, PatternLine, NextLine}
+use Rattle.fields.specs.Fields.{Puts}
+use Rattle.fields.proofs.Putting.{puts-counts}
+use Rattle.lines.specs.Lines.{lineOf, tooLong, EndsAt, HasLine, PatternLine, NextLine}
 use Rattle.lines.specs.declared.Run.{Run}
-use Rattle.lines.proofs.Putting.{puts-counts}
 
 module _ {s old new : List ℕ} {run : Run} where
   -- a pattern that ends before byte e has its line put

@@ -8,9 +8,9 @@ use lib.Dec.{ltb}
 use lib.ListN.{length, take, drop, drop-of-length-le}
 use Rattle.basics.proofs.Tests.{if-either}
 use borrow.Author.Tests.{ltb-true, ltb-false}
+use Rattle.fields.proofs.Putting.{puts-bytes}
 use Rattle.lines.specs.Lines.{lineOf, patternsFrom, patternsOf, linesFrom, tooLong, outputOf, start, PatternLine, OnlyLine, NextLine}
 use Rattle.lines.specs.declared.Run.{Run}
-use Rattle.lines.proofs.Putting.{puts-bytes}
 use Rattle.lines.proofs.Running.{Stands, stands-first, stands-has, stands-next}
 
 -- calls of `next_line` as the program makes them: each with room for a line, and from where the last one left the run, until the

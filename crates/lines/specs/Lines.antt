@@ -2,46 +2,23 @@
 -- A name in square brackets is that of the rule that a definition renders.
 use mathlib.Core.Path.{_≡_}
 use mathlib.Core.List.{List, [], _∷_, _++_}
-use Prim.Native.Nat.{ℕ, zero, suc, _+_, _-_, _/_, _%_, _≤_, _<_}
+use Prim.Native.Nat.{ℕ, suc, _+_, _-_, _≤_, _<_}
 use lib.Dec.{eqb, ltb}
 use lib.ListN.{length, take, drop}
-use lib.Seq.{sets}
 use Rattle.basics.specs.Choice.{if_then_else_}
 use Rattle.basics.specs.Bytes.{codes}
 use Rattle.pattern.specs.Grammar.{patternPart}
 use Rattle.pattern.specs.Positions.{positions, patternGraph}
 use Rattle.pattern.specs.Refusals.{patternRefusal}
 use Rattle.verdict.specs.Verdict.{verdict}
+use Rattle.fields.specs.Fields.{newline, resultLine, Puts}
 use Rattle.lines.specs.declared.Run.{Run}
-
--- ---- the fields of a line
-
--- the digits of n, the most significant first and no more than are needed; k is a number above n
-unfoldable pub digitsBelow : ℕ → ℕ → List ℕ
-digitsBelow zero n = []
-digitsBelow (suc k) n = if ltb n 10 then (48 + n) ∷ [] else digitsBelow k (n / 10) ++ ((48 + n % 10) ∷ [])
-
-unfoldable pub decimal : ℕ → List ℕ
-decimal n = digitsBelow (suc n) n
-
--- [Verdicts] the word of a verdict: 0 is single, 1 steady, 2 runaway
-abbrev pub word : ℕ → List ℕ
-word zero = codes "single"
-word (suc zero) = codes "steady"
-word (suc (suc v)) = codes "runaway"
-
-abbrev pub newline : List ℕ
-newline = 10 ∷ []
 
 -- ---- a line
 
--- [Output lines] the line number n, a word w and a number k, with a space between them and byte 10 after them
-abbrev pub fields : ℕ → List ℕ → ℕ → List ℕ
-fields n w k = decimal n ++ (codes " " ++ (w ++ (codes " " ++ (decimal k ++ newline))))
-
--- [Output lines] the line for the pattern s: the verdict's word and the number of positions, or `refused` and the refusal's number
+-- [Output lines] the line for the pattern s, by what its vetting gives
 unfoldable pub lineOf : ℕ → List ℕ → List ℕ
-lineOf n s = if eqb (patternRefusal s) 0 then fields n (word (verdict (patternGraph s))) (positions (patternPart s)) else fields n (codes "refused") (patternRefusal s)
+lineOf n s = resultLine n (patternRefusal s) (verdict (patternGraph s)) (positions (patternPart s))
 
 -- ---- the input's patterns
 
@@ -74,11 +51,6 @@ abbrev pub outputOf : List ℕ → List ℕ
 outputOf s = if ltb 65536 (length s) then tooLong else linesFrom 1 (patternsOf s)
 
 -- ---- what the functions promise
-
--- the text stands in the slice from byte a on, in place of what was there; r is the place after it
-pub record Puts (text old : List ℕ) (a : ℕ) (new : List ℕ) (r : ℕ) : Type 0 where
-  pub bytes : new ≡ sets old a text
-  pub end : r ≡ a + length text
 
 -- the input's first pattern from byte a on ends before byte r: the byte 10 there, or the input's end
 pub record EndsAt (s : List ℕ) (a r : ℕ) : Type 0 where

@@ -1,88 +1,11 @@
 // What the program `vet` writes, line by line: a run through an input starts with `begin`, and each call of `next_line` puts a line.
 // No public function has a `requires`. That all lines together are the output is `run-is-output` of proofs/Written.antt.
-// The functions `put..` put a text into a slice from byte `at` on, and give the place after it.
 ghost use mathlib.Core.Path.{_≡_};
-ghost use mathlib.Core.List.{[], _∷_, _++_};
 ghost use Prim.Native.Nat.{_+_, _≤_, _<_};
 ghost use lib.ListN.{length};
 ghost use Rattle.io.specs.Counts.{Counts};
-ghost use Rattle.lines.specs.Lines.{decimal, fields, lineOf, Puts, EndsAt, start, HasLine, PatternLine, NextLine};
-
-// A text, and the byte `end` after it.
-fn put(text: &[u8], end: u8, out: &mut [u8], at: usize) -> usize
-    requires { ⌜ at + length (now text) < length (now out) ⌝ }
-    ensures { λ r. ⌜ Puts (now (text .entry) ++ (end ∷ [])) (now (out .entry)) at (now (out .exit)) r ⌝ }
-{
-    let mut i = 0;
-    while i < text.len() {
-        out[at + i] = text[i];
-        i += 1;
-    }
-    out[at + i] = end;
-    at + i + 1
-}
-
-// A number in decimal, and the byte `end` after it.
-fn put_number(n: u64, end: u8, out: &mut [u8], at: usize) -> usize
-    requires { ⌜ at + length (decimal n) < length (now out) ⌝ }
-    ensures { λ r. ⌜ Puts (decimal n ++ (end ∷ [])) (now (out .entry)) at (now (out .exit)) r ⌝ }
-{
-    let mut digits = [0u8; 20];
-    let k = io::decimal(n, &mut digits);
-    put(&digits[..k], end, out, at)
-}
-
-// A line of its three fields, of at most 18 bytes where its number has at most five digits and its word seven letters.
-fn put_fields(number: u64, word: &[u8], last: u8, out: &mut [u8], at: usize) -> usize
-    requires { ⌜ (number < 100000) × (length (now word) ≤ 7) × (at + 18 ≤ length (now out)) ⌝ }
-    ensures { λ r. ⌜ Puts (fields number (now (word .entry)) last) (now (out .entry)) at (now (out .exit)) r ⌝ }
-    ensures { λ r. ⌜ r ≤ at + 18 ⌝ }
-{
-    let a = put_number(number, b' ', out, at);
-    let b = put(word, b' ', out, a);
-    put_number(last as u64, b'\n', out, b)
-}
-
-// The line of a pattern.
-fn put_line(
-    number: u64,
-    pattern: &[u8],
-    evidence: &mut [u8],
-    scratch: &mut [u16],
-    out: &mut [u8],
-    at: usize,
-) -> usize
-    requires { ⌜ (number < 100000) × (4096 ≤ length (now evidence)) × (8192 ≤ length (now scratch)) × (at + 18 ≤ length (now out)) ⌝ }
-    ensures { λ r. ⌜ Puts (lineOf number (now (pattern .entry))) (now (out .entry)) at (now (out .exit)) r ⌝ }
-    ensures { λ r. ⌜ r ≤ at + 18 ⌝ }
-{
-    let v = marking::vet_pattern(pattern, evidence, scratch);
-    if v.refusal != 0 {
-        return put_fields(number, b"refused", v.refusal, out, at);
-    }
-    if v.verdict == 0 {
-        return put_fields(number, b"single", v.positions, out, at);
-    }
-    if v.verdict == 1 {
-        return put_fields(number, b"steady", v.positions, out, at);
-    }
-    put_fields(number, b"runaway", v.positions, out, at)
-}
-
-// Where the pattern ends that begins at byte `from`: at the next byte 10, or at the input's end.
-fn pattern_end(input: &[u8], from: usize) -> usize
-    requires { ⌜ from < length (now input) ⌝ }
-    ensures { λ r. ⌜ EndsAt (now (input .entry)) from r ⌝ }
-{
-    let mut i = from;
-    while i < input.len() {
-        if input[i] == 10 {
-            return i;
-        }
-        i += 1;
-    }
-    i
-}
+ghost use Rattle.fields.specs.Fields.{Puts};
+ghost use Rattle.lines.specs.Lines.{lineOf, EndsAt, start, HasLine, PatternLine, NextLine};
 
 // Where a run through an input stands: the byte from which and the number with which it goes on, and the length of the line that
 // it has just put.
@@ -101,6 +24,39 @@ pub fn begin() -> Run
         number: 1,
         len: 0,
     }
+}
+
+// The next line of a run, put at the start of `out`, and where the run then stands. The run is over at the input's end or past it.
+// An input of more than 65,536 bytes has one line, `input too long`, and the run is then over. Nothing is put, the length is 0 and
+// the run stays where it is if it is over, if its number has more than five digits, or if `out` has fewer than 18 bytes.
+pub fn next_line(input: &[u8], run: Run, out: &mut [u8]) -> Run
+    ensures { λ r. ⌜ Counts (r .len) (now (out .exit)) ⌝ }
+    ensures { λ r. ⌜ NextLine (now (input .entry)) run (now (out .entry)) (now (out .exit)) r ⌝ }
+{
+    let stay = Run {
+        from: run.from,
+        number: run.number,
+        len: 0,
+    };
+    if run.from >= input.len() {
+        return stay;
+    }
+    if run.number >= 100000 {
+        return stay;
+    }
+    if out.len() < 18 {
+        return stay;
+    }
+    if input.len() > 65536 {
+        let len = fields::put(b"input too long", b'\n', out, 0);
+        let next = run.number + 1;
+        return Run {
+            from: input.len(),
+            number: next,
+            len: len,
+        };
+    }
+    pattern_line(input, run, out)
 }
 
 // The line of the pattern at which the run stands, put at the start of `out`, and where the run then stands: after that pattern and
@@ -131,35 +87,34 @@ fn pattern_line(input: &[u8], run: Run, out: &mut [u8]) -> Run
     }
 }
 
-// The next line of a run, put at the start of `out`, and where the run then stands. The run is over at the input's end or past it.
-// An input of more than 65,536 bytes has one line, `input too long`, and the run is then over. Nothing is put, the length is 0 and
-// the run stays where it is if it is over, if its number has more than five digits, or if `out` has fewer than 18 bytes.
-pub fn next_line(input: &[u8], run: Run, out: &mut [u8]) -> Run
-    ensures { λ r. ⌜ Counts (r .len) (now (out .exit)) ⌝ }
-    ensures { λ r. ⌜ NextLine (now (input .entry)) run (now (out .entry)) (now (out .exit)) r ⌝ }
+// Where the pattern ends that begins at byte `from`: at the next byte 10, or at the input's end.
+fn pattern_end(input: &[u8], from: usize) -> usize
+    requires { ⌜ from < length (now input) ⌝ }
+    ensures { λ r. ⌜ EndsAt (now (input .entry)) from r ⌝ }
 {
-    let stay = Run {
-        from: run.from,
-        number: run.number,
-        len: 0,
-    };
-    if run.from >= input.len() {
-        return stay;
+    let mut i = from;
+    while i < input.len() {
+        if input[i] == 10 {
+            return i;
+        }
+        i += 1;
     }
-    if run.number >= 100000 {
-        return stay;
-    }
-    if out.len() < 18 {
-        return stay;
-    }
-    if input.len() > 65536 {
-        let len = put(b"input too long", b'\n', out, 0);
-        let next = run.number + 1;
-        return Run {
-            from: input.len(),
-            number: next,
-            len: len,
-        };
-    }
-    pattern_line(input, run, out)
+    i
+}
+
+// The line of a pattern.
+fn put_line(
+    number: u64,
+    pattern: &[u8],
+    evidence: &mut [u8],
+    scratch: &mut [u16],
+    out: &mut [u8],
+    at: usize,
+) -> usize
+    requires { ⌜ (number < 100000) × (4096 ≤ length (now evidence)) × (8192 ≤ length (now scratch)) × (at + 18 ≤ length (now out)) ⌝ }
+    ensures { λ r. ⌜ Puts (lineOf number (now (pattern .entry))) (now (out .entry)) at (now (out .exit)) r ⌝ }
+    ensures { λ r. ⌜ r ≤ at + 18 ⌝ }
+{
+    let v = marking::vet_pattern(pattern, evidence, scratch);
+    fields::put_result(number, v.refusal, v.verdict, v.positions, out, at)
 }

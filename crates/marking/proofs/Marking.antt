@@ -14,7 +14,7 @@ use Rattle.graph.specs.Graph.{Graph, noGraph}
 use Rattle.graph.specs.Readings.{readings, mark}
 use Rattle.pattern.specs.Refusals.{patternRefusal, builtGraph}
 use Rattle.pattern.specs.Positions.{patternGraph}
-use Rattle.marks.specs.Rows.{Answered}
+use Rattle.marks.specs.Answers.{Answered}
 use Rattle.marks.specs.declared.Marked.{Marked}
 use Rattle.marking.specs.Marking.{markRefusal, countShown, MarkSays, countAfter}
 

@@ -72,11 +72,11 @@ declined-by zero s e e′ w w′ r d h = absurd (d refl)
 declined-by (suc k) s e e′ w w′ r d h = h
 
 module _ (s e e′ w w′ : List ℕ) (r : Vetted) (says : VetSays s e e′ w w′ r) where
-  abbrev fault : ℕ
-  fault = vetRefusal s (length e) (length w)
+  abbrev due : ℕ
+  due = vetRefusal s (length e) (length w)
 
-  pub refusal-is : r .refusal ≡ fault
-  refusal-is = refusal-by fault s e e′ w w′ r says
+  pub refusal-is : r .refusal ≡ due
+  refusal-is = refusal-by due s e e′ w w′ r says
 
   pub accepted : r .refusal ≡ 0 → patternRefusal s ≡ 0
   accepted z = accepts s (length e) (length w) (sym refusal-is ∙ z)
@@ -85,4 +85,4 @@ module _ (s e e′ w w′ : List ℕ) (r : Vetted) (says : VetSays s e e′ w w�
   answered z = subst (λ (n : ℕ). VetBy n s e e′ w w′ r) (sym refusal-is ∙ z) says
 
   pub declined : (r .refusal ≡ 0 → ⊥) → Declined (r .refusal) e e′ w w′ r
-  declined d = subst (λ (n : ℕ). Declined n e e′ w w′ r) (sym refusal-is) (declined-by fault s e e′ w w′ r (λ z. d (refusal-is ∙ z)) says)
+  declined d = subst (λ (n : ℕ). Declined n e e′ w w′ r) (sym refusal-is) (declined-by due s e e′ w w′ r (λ z. d (refusal-is ∙ z)) says)

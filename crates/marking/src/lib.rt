@@ -27,20 +27,6 @@ pub fn vet_pattern(pattern: &[u8], evidence: &mut [u8], scratch: &mut [u16]) -> 
     vetting::vet(built, &mut *evidence, &mut *scratch)
 }
 
-// A refusal to vet.
-fn no_verdict(refusal: u8) -> Vetted
-    ensures { λ r. ⌜ r ≡ refused refusal ⌝ }
-{
-    Vetted {
-        refusal: refusal,
-        verdict: 0,
-        positions: 0,
-        first: 0,
-        second: 0,
-        third: 0,
-    }
-}
-
 // The same for C, with one number for the result: the refusal in bits 0 to 7, the verdict in 8 to 15, the number of positions in
 // 16 to 23, the lengths in 24 to 35, 36 to 47 and 48 to 59.
 #[no_mangle]
@@ -58,19 +44,6 @@ pub extern "C" fn marking_vet(pattern: &[u8], evidence: &mut [u8]) -> u64
 {
     let mut scratch = [0u16; 8192];
     marking_vet_in(pattern, &mut *evidence, &mut scratch)
-}
-
-// A result as one number.
-fn packed(v: Vetted) -> u64
-    requires { ⌜ (v .first < 2 ^ 12) × (v .second < 2 ^ 12) × (v .third < 2 ^ 12) ⌝ }
-    ensures { λ r. ⌜ r ≡ vetPacked v ⌝ }
-{
-    v.refusal as u64
-        + v.verdict as u64 * 0x100
-        + v.positions as u64 * 0x1_0000
-        + v.first as u64 * 0x100_0000
-        + v.second as u64 * 0x10_0000_0000
-        + v.third as u64 * 0x1_0000_0000_0000
 }
 
 // Marks an answer by a pattern.
@@ -91,17 +64,6 @@ pub fn mark_answer(pattern: &[u8], answer: &[u8]) -> Marked
     marks::mark(built, answer)
 }
 
-// A refusal to mark.
-fn no_mark(refusal: u8) -> Marked
-    ensures { λ r. ⌜ (r .refusal ≡ refusal) × (r .count ≡ 0) × (r .mark ≡ 0) ⌝ }
-{
-    Marked {
-        refusal: refusal,
-        count: 0,
-        mark: 0,
-    }
-}
-
 // The same for C: the mark in bits 0 to 31 of the result and the refusal in bits 32 to 39. The count is stored behind the
 // pointer where there is no refusal; at a refusal nothing is read or stored there.
 #[no_mangle]
@@ -113,4 +75,42 @@ pub extern "C" fn marking_mark(pattern: &[u8], answer: &[u8], count: &mut u64) -
         *count = m.count;
     }
     m.refusal as u64 * 0x1_0000_0000 + m.mark as u64
+}
+
+// A refusal to vet.
+fn no_verdict(refusal: u8) -> Vetted
+    ensures { λ r. ⌜ r ≡ refused refusal ⌝ }
+{
+    Vetted {
+        refusal: refusal,
+        verdict: 0,
+        positions: 0,
+        first: 0,
+        second: 0,
+        third: 0,
+    }
+}
+
+// A result as one number.
+fn packed(v: Vetted) -> u64
+    requires { ⌜ (v .first < 2 ^ 12) × (v .second < 2 ^ 12) × (v .third < 2 ^ 12) ⌝ }
+    ensures { λ r. ⌜ r ≡ vetPacked v ⌝ }
+{
+    v.refusal as u64
+        + v.verdict as u64 * 0x100
+        + v.positions as u64 * 0x1_0000
+        + v.first as u64 * 0x100_0000
+        + v.second as u64 * 0x10_0000_0000
+        + v.third as u64 * 0x1_0000_0000_0000
+}
+
+// A refusal to mark.
+fn no_mark(refusal: u8) -> Marked
+    ensures { λ r. ⌜ (r .refusal ≡ refusal) × (r .count ≡ 0) × (r .mark ≡ 0) ⌝ }
+{
+    Marked {
+        refusal: refusal,
+        count: 0,
+        mark: 0,
+    }
 }

@@ -1,13 +1,13 @@
 -- The digits that are the fewest are the number's decimal form. Assumes nothing.
 use mathlib.Core.Path.{_≡_, ap, _∙_, subst}
 use mathlib.Core.List.{List, [], _∷_, _++_}
-use Prim.Native.Nat.{ℕ, _+_, _<_}
+use Prim.Native.Nat.{ℕ}
 use lib.ListN.{length, take}
-use Rattle.lines.specs.Lines.{decimal, Puts}
-use Rattle.lines.proofs.Fields.{fewest-decimal}
+use Rattle.fields.specs.Fields.{decimal, Puts}
+use Rattle.fields.proofs.Fields.{fewest-decimal}
 use borrow.Author.Needs.{needs}
-use Rattle.lines.proofs.put_number.Statement.{statement}
-use Rattle.lines.proofs.put_number.Tie as tie
+use Rattle.fields.proofs.put_number.Statement.{statement}
+use Rattle.fields.proofs.put_number.Tie as tie
 
 decimal-requires : tie.Need-decimal-requires
 decimal-requires c κs = search needs

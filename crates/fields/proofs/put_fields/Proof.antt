@@ -1,14 +1,14 @@
 -- Three texts one after the other. Assumes nothing.
 use mathlib.Core.List.{append-assoc}
-use Prim.Native.Nat.{ℕ, _+_, _≤_, _<_}
+use Prim.Native.Nat.{_+_, _≤_}
 use native.Mathlib.Omega.{arith}
 use lib.ListN.{length, length-append}
-use Rattle.lines.specs.Lines.{fields, Puts}
-use Rattle.lines.proofs.Fields.{line-short}
-use Rattle.lines.proofs.Putting.{puts-then, puts-kept}
+use Rattle.fields.specs.Fields.{fields, Puts}
+use Rattle.fields.proofs.Fields.{line-short}
+use Rattle.fields.proofs.Putting.{puts-then, puts-kept}
 use borrow.Author.Needs.{needs}
-use Rattle.lines.proofs.put_fields.Statement.{statement}
-use Rattle.lines.proofs.put_fields.Tie as tie
+use Rattle.fields.proofs.put_fields.Statement.{statement}
+use Rattle.fields.proofs.put_fields.Tie as tie
 
 -- there is room for the line
 room : (c : tie.Start) → c .args .at + length (fields (c .args .number) (c .args .word .now) (c .args .last)) ≤ length (c .args .out .now)

@@ -1,13 +1,12 @@
 -- A copy, byte by byte, and one byte more. Invariant: the text's first i bytes are put. Assumes nothing.
-use mathlib.Core.Path.{_≡_, refl}
+use mathlib.Core.Path.{refl}
 use Prim.Native.Nat.{_+_, _-_, _≤_}
-use native.Mathlib.Nat.{add-zero}
 use native.Mathlib.Omega.{arith}
 use lib.ListN.{length, take}
-use Rattle.lines.specs.Lines.{Puts}
-use Rattle.lines.proofs.Putting.{puts-then, puts-byte, puts-more, puts-all, puts-kept}
-use Rattle.lines.proofs.put.Statement.{statement}
-use Rattle.lines.proofs.put.Tie as tie
+use Rattle.fields.specs.Fields.{Puts}
+use Rattle.fields.proofs.Putting.{puts-then, puts-byte, puts-more, puts-all, puts-kept}
+use Rattle.fields.proofs.put.Statement.{statement}
+use Rattle.fields.proofs.put.Tie as tie
 
 abbrev Inv-loop : tie.InvT-loop
 Inv-loop text end out₀ at i₀ out i = (i ≤ length text) × Puts (take i text) out₀ at out (at + i)

@@ -1,18 +1,16 @@
 -- The fields of a line: the fewest digits are the decimal number, and how long a line can be. Assumes nothing.
 use mathlib.Core.Path.{_≡_, refl, sym, ap, _∙_, subst}
-use mathlib.Core.Bool.{true, false, cond}
 use mathlib.Core.List.{List, [], _∷_, _++_}
-use Prim.Native.Nat.{ℕ, zero, suc, _+_, _*_, _-_, _/_, _%_, _^_, _≤_, _<_}
+use Prim.Native.Nat.{ℕ, zero, suc, _+_, _-_, _/_, _%_, _^_, _≤_, _<_}
 use native.Mathlib.Nat.{pow-suc, mod-lt, mod-eq-of-lt, le-div-iff-mul-le, div-lt-iff-lt-mul, div-lt-self, pow-le-pow-right}
 use native.Mathlib.Omega.{arith}
-use lib.Dec.{ltb}
+use lib.Dec.{eqb, ltb}
 use lib.ListN.{length, length-append}
-use borrow.Author.Tests.{lt-ltb, le-ltb, ltb-false, eq-eqb, ne-eqb}
-use Rattle.basics.specs.Choice.{if_then_else_}
+use borrow.Author.Tests.{lt-ltb, le-ltb, eq-eqb, ne-eqb}
 use Rattle.basics.specs.Bytes.{codes}
 use Rattle.basics.proofs.Tests.{if-yes, if-no, if-either}
 use Rattle.io.specs.Digits.{glyph, digits, Fewest}
-use Rattle.lines.specs.Lines.{digitsBelow, decimal, word, fields}
+use Rattle.fields.specs.Fields.{digitsBelow, decimal, word, fields, resultLine}
 
 -- ---- decimal numbers
 
@@ -83,3 +81,11 @@ line-short n w k h l m =
     let a = decimal-short 4 n h in
     let b = decimal-short 2 k (omega arith) in
     simp length-append (omega arith)
+
+-- what is written is the line of what vetting gave
+module _ (n refusal v p : ℕ) where
+  pub line-refused : (refusal ≡ 0 → ⊥) → fields n (codes "refused") refusal ≡ resultLine n refusal v p
+  line-refused d = sym (if-no (fields n (word v) p) (fields n (codes "refused") refusal) (eqb refusal 0) (ne-eqb refusal 0 d))
+
+  pub line-verdict : refusal ≡ 0 → (w : List ℕ) → w ≡ word v → fields n w p ≡ resultLine n refusal v p
+  line-verdict z w e = ap (λ (x : List ℕ). fields n x p) e ∙ sym (if-yes (fields n (word v) p) (fields n (codes "refused") refusal) (eqb refusal 0) (eq-eqb refusal 0 z))

@@ -9,7 +9,7 @@ use native.Mathlib.Omega.{arith}
 use lib.ListN.{length, take, drop, getD, set, length-append}
 use lib.Seq.{sets, sets-eq, length-sets, take-at, take-suc, take-all, length-take-le}
 use Rattle.io.specs.Counts.{Counts}
-use Rattle.lines.specs.Lines.{Puts}
+use Rattle.fields.specs.Fields.{Puts}
 
 pub sets-append : (s t l : List ℕ) (i : ℕ) → sets (sets l i s) (i + length s) t ≡ sets l i (s ++ t)
 sets-append [] t l i = ap (λ (k : ℕ). sets l k t) (add-zero i)
@@ -25,6 +25,10 @@ puts-then {s} {t} {old} {mid} {new} {a} {m} {r} p q = record {
 
 pub puts-kept : {s old new : List ℕ} {a r : ℕ} → Puts s old a new r → length new ≡ length old
 puts-kept {s} {old} {new} {a} p = ap length (p .bytes) ∙ length-sets old a s
+
+-- a short line by another name
+pub puts-same : {text line old new : List ℕ} {a r : ℕ} → Puts text old a new r × (r ≤ a + 18) → text ≡ line → Puts line old a new r × (r ≤ a + 18)
+puts-same {text} {line} {old} {new} {a} {r} p e = (subst (λ (t : List ℕ). Puts t old a new r) e (p .0), p .1)
 
 -- ---- a text put byte by byte
 

@@ -1,0 +1,2 @@
+-- The fields of a line, and texts put into a slice.
+pub mod Fields
