@@ -1,5 +1,5 @@
 -- Tables of sets. The words of entry i stand at 2 i and 2 i + 1, so no two entries share a word. Assumes nothing.
-use mathlib.Core.Path.{_≡_, sym, ap, _∙_}
+use mathlib.Core.Path.{_≡_, refl, sym, ap, _∙_}
 use mathlib.Core.Logic.{⊎-elim}
 use mathlib.Core.Bool.{false}
 use mathlib.Core.List.{List}
@@ -8,10 +8,10 @@ use native.Mathlib.Omega.{arith}
 use lib.ListN.{length, getD, set, replicate, length-set, List·getD-eq-default}
 use lib.Seq.{getD-set-same, getD-set-other}
 use Rattle.basics.proofs.Tests.{by-equal, le-or-lt}
-use Rattle.basics.proofs.Lists.{zeros}
+use Rattle.basics.proofs.Lists.{alike, zeros}
 use Rattle.letters.specs.LetterSet.{hasLetter}
 use Rattle.letters.specs.declared.LetterSet.{LetterSet}
-use Rattle.letters.specs.Table.{tableSize, setIn, setAt, Puts}
+use Rattle.letters.specs.Table.{tableSize, setIn, setAt, Writes}
 use Rattle.letters.proofs.Sets.{zero-none}
 
 -- a table of zeros has no letter
@@ -19,10 +19,15 @@ pub none-in : (n i c : ℕ) → hasLetter (setIn (replicate n 0) i) c ≡ false
 unfolding setIn
 none-in n i = zero-none (setIn (replicate n 0) i) (zeros n (2 * i)) (zeros n (2 * i + 1))
 
+-- an array of empty sets has no letter
+pub all-empty : (n : ℕ) (none : LetterSet) → ((c : ℕ) → hasLetter none c ≡ false) → (i c : ℕ) → hasLetter (setAt (replicate n none) i) c ≡ false
+all-empty n none empty i c =
+    alike (λ (s : LetterSet). hasLetter s c ≡ false) n none record { low = 0; high = 0 } (empty c) (zero-none record { low = 0; high = 0 } refl refl c) i
+
 -- a store of two words is a store of a set
-pub puts : (table : List ℕ) (i : ℕ) (s : LetterSet) → i < 61 → length table ≡ tableSize → Puts i s table (set (set table (2 * i) (s .low)) (2 * i + 1) (s .high))
+pub writes : (table : List ℕ) (i : ℕ) (s : LetterSet) → i < 61 → length table ≡ tableSize → Writes i s table (set (set table (2 * i) (s .low)) (2 * i + 1) (s .high))
 unfolding setIn
-puts table i s h size =
+writes table i s h size =
     let low = set table (2 * i) (s .low) in
     let l = length-set table (2 * i) (s .low) in
     let other : (k : ℕ) → (k ≡ 2 * i → ⊥) → (k ≡ 2 * i + 1 → ⊥) → getD (set low (2 * i + 1) (s .high)) k 0 ≡ getD table k 0

@@ -18,7 +18,7 @@ abbrev pub setAt : List LetterSet → ℕ → LetterSet
 setAt sets i = getD sets i record { low = 0; high = 0 }
 
 -- entry i becomes the set s
-pub record Puts (i : ℕ) (s : LetterSet) (before after : List ℕ) : Type 0 where
+pub record Writes (i : ℕ) (s : LetterSet) (before after : List ℕ) : Type 0 where
   pub size : length after ≡ length before
   pub here : setIn after i ≡ s
   pub others : (j : ℕ) → (i ≡ j → ⊥) → setIn after j ≡ setIn before j

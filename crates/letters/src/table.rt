@@ -6,7 +6,7 @@ ghost use mathlib.Core.Bool.{false};
 ghost use Prim.Native.Nat.{ℕ, _<_};
 ghost use lib.ListN.{length};
 ghost use Rattle.letters.specs.LetterSet.{hasLetter};
-ghost use Rattle.letters.specs.Table.{tableSize, setIn, setAt, Puts};
+ghost use Rattle.letters.specs.Table.{tableSize, setIn, setAt, Writes};
 
 // The table of empty sets.
 pub fn empty() -> [u64; 122]
@@ -16,9 +16,9 @@ pub fn empty() -> [u64; 122]
 }
 
 // Entry i becomes the set s.
-pub fn put(table: &mut [u64], i: usize, s: LetterSet)
+pub fn write(table: &mut [u64], i: usize, s: LetterSet)
     requires { ⌜ (i < 61) × (length (now table) ≡ tableSize) ⌝ }
-    ensures { λ r. ⌜ Puts i s (now (table .entry)) (now (table .exit)) ⌝ }
+    ensures { λ r. ⌜ Writes i s (now (table .entry)) (now (table .exit)) ⌝ }
 {
     table[2 * i] = s.low;
     table[2 * i + 1] = s.high;

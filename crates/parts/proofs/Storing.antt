@@ -13,7 +13,7 @@ use Rattle.basics.proofs.Lists.{alike, last-other, set-keeps, zeros}
 use Rattle.letters.specs.Alphabet.{isLetter}
 use Rattle.letters.specs.LetterSet.{hasLetter}
 use Rattle.letters.specs.declared.LetterSet.{LetterSet}
-use Rattle.letters.specs.Table.{setIn, Puts}
+use Rattle.letters.specs.Table.{setIn, Writes}
 use Rattle.pattern.specs.Parts.{Atom, holds}
 use Rattle.pattern.specs.Grammar.{noAtom}
 use Rattle.parts.specs.Tables.{atomOf, Stored}
@@ -55,7 +55,7 @@ one-more {F} what shown shown′ al x others here full same i = ⊎-elim past ro
 
 -- the entry k of both tables is set, where there is one
 pub record Sets (k : ℕ) (s : LetterSet) (credit : ℕ) (sets credits sets′ credits′ : List ℕ) : Type 0 where
-  pub letters : Puts k s sets sets′
+  pub letters : Writes k s sets sets′
   pub numbers : credits′ ≡ set credits k credit
   pub room : k < 61
 

@@ -154,7 +154,7 @@ fn letter(s: &[u8], at: usize, n: usize, sets: &mut [u64], credits: &mut [u8]) -
     let set = a.set;
     let k = n + 1;
     if k < 61 {
-        table::put(&mut *sets, k, set);
+        table::write(&mut *sets, k, set);
         credits[k] = a.credit;
     }
     let own = links::position(k);

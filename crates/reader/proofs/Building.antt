@@ -16,7 +16,7 @@ use Rattle.bits.proofs.Laws.{has-none}
 use Rattle.letters.specs.LetterSet.{hasLetter}
 use Rattle.letters.specs.declared.LetterSet.{LetterSet}
 use Rattle.letters.specs.Table.{setIn, setAt}
-use Rattle.letters.proofs.Sets.{zero-none}
+use Rattle.letters.proofs.Tables.{all-empty}
 use Rattle.graph.specs.Graph.{noGraph, Bounded}
 use Rattle.graph.specs.Built.{graphOfBuilt}
 use Rattle.graph.specs.declared.Built.{Built}
@@ -36,7 +36,7 @@ none-shown none empty = λ t. record {
   positions = 0;
   next = λ u i. alike (λ (m : ℕ). hasBit m i ≡ false) 61 0 0 (has-none i) (has-none i) u t;
   last = λ u. has-none u t;
-  holds = λ i c. alike (λ (s : LetterSet). hasLetter s c ≡ false) 61 none record { low = 0; high = 0 } (empty c) (zero-none record { low = 0; high = 0 } refl refl c) i t;
+  holds = λ i c. all-empty 61 none empty i c t;
   credit = λ i. alike (λ (n : ℕ). n ≡ 0) 61 0 0 refl refl i t;
 }
 

@@ -8,7 +8,7 @@ use native.Mathlib.Omega.{arith}
 use lib.ListN.{length, length-set}
 use borrow.Author.Needs.{needs}
 use borrow.Author.Tests.{not-true, not-false}
-use Rattle.letters.specs.Table.{Puts}
+use Rattle.letters.specs.Table.{Writes}
 use Rattle.parts.proofs.Parsing.{stands-not, letter-stands}
 use Rattle.parts.proofs.letter.Statement.{statement}
 use Rattle.parts.proofs.letter.Tie as tie
@@ -32,8 +32,8 @@ add-k c =
     let within = a .ensures .within good in
     omega arith
 
-put-requires : tie.Need-put-requires
-put-requires c κs = (omega arith, c .before .before .before .before .before .before .before .before .before .pre .1 .sets-are)
+write-requires : tie.Need-write-requires
+write-requires c κs = (omega arith, c .before .before .before .before .before .before .before .before .before .pre .1 .sets-are)
 
 slice-write-credits : tie.Need-slice-write-credits
 slice-write-credits c = omega (arith, c .before .before .before .before .before .before .before .before .before .before .before .before .pre .1 .credits-are)
@@ -53,7 +53,7 @@ returns-2 c =
     let a = c .before .before .before .before .before .atom in
     let good = not-false (a .result .good) (c .before .before .before .if1 .left) in
     letter-stands _ _ _ _ _ _ _ _ _ (a .result) (a .ensures) good (start .pre .0) (c .position .ensures) (start .pre .1 .credits-are)
-    (⊎-elim (λ w. inl record { letters = subst (λ (l : List ℕ). Puts (start .args .n + 1) (a .result .set) (start .args .sets .now) l) (sym (w .5)) (w .2 .ensures); numbers = w .6; room = w .0 .taken })
+    (⊎-elim (λ w. inl record { letters = subst (λ (l : List ℕ). Writes (start .args .n + 1) (a .result .set) (start .args .sets .now) l) (sym (w .5)) (w .2 .ensures); numbers = w .6; room = w .0 .taken })
     (λ w. inr record { letters = w .1; numbers = w .2; full = w .0 .left }) (c .before .if2 .came))
 
 pub letter-spec : {M : Type 1} → statement M
@@ -64,7 +64,7 @@ letter-spec =
     nothing-requires
     returns
     add-k
-    put-requires
+    write-requires
     slice-write-credits
     position-requires
     same-length

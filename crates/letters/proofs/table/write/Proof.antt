@@ -3,9 +3,9 @@ use Prim.Native.Nat.{_*_}
 use native.Mathlib.Omega.{arith}
 use lib.ListN.{length-set}
 use borrow.Author.Needs.{needs}
-use Rattle.letters.proofs.Tables.{puts}
-use Rattle.letters.proofs.table.put.Statement.{statement}
-use Rattle.letters.proofs.table.put.Tie as tie
+use Rattle.letters.proofs.Tables.{writes}
+use Rattle.letters.proofs.table.write.Statement.{statement}
+use Rattle.letters.proofs.table.write.Tie as tie
 
 mul-table : tie.Need-mul-table
 mul-table c = search needs
@@ -32,10 +32,10 @@ same-length : tie.Need-same-length
 same-length c = search needs
 
 returns : tie.Need-returns
-returns c = puts (c .args .table .now) (c .args .i) (c .args .s) (c .pre .0) (c .pre .1)
+returns c = writes (c .args .table .now) (c .args .i) (c .args .s) (c .pre .0) (c .pre .1)
 
-pub put-spec : {M : Type 1} → statement M
-put-spec =
+pub write-spec : {M : Type 1} → statement M
+write-spec =
     tie.close
     (tie.spec
     mul-table
