@@ -30,9 +30,9 @@ extern "C" {
 #define MARKING_ANSWER_MAX 4096  /* bytes of an answer */
 
 /* The least that is asked for. */
-#define MARKING_EVIDENCE 4096           /* bytes of evidence */
-#define MARKING_SCRATCH 8192            /* numbers of scratch */
-#define MARKING_STACK (3 * 1024 * 1024) /* bytes of stack */
+#define MARKING_EVIDENCE 4096       /* bytes of evidence */
+#define MARKING_SCRATCH 8192        /* numbers of scratch */
+#define MARKING_STACK (1536 * 1024) /* bytes of stack */
 
 /* The count that means 'so many or more'. Every smaller one is exact. */
 #define MARKING_COUNT_MAX (UINT64_C(1) << 63)

@@ -1,5 +1,6 @@
-//! Tests of the library against the rules: specimens, edges of every refusal, lent scratch, threads, what the pages claim, and
-//! random patterns and answers against an independent model. The last line is 'N passed, M failed'. Arguments: how many random patterns, and a seed.
+//! Tests of the library against the rules: specimens, edges of every refusal, the last positions and the first past them, answers
+//! short and long, calls one after another, lent scratch, threads, what the pages claim, and random patterns and answers against
+//! an independent model. The last line is 'N passed, M failed'. Arguments: how many random patterns, and a seed.
 
 mod library;
 mod model;
@@ -195,6 +196,99 @@ fn edges(t: &mut Tally) {
     refuses(t, &open, 5);
 }
 
+/// Positions up to 60 are stored, letters and credit each, and those past 60 only counted; what is wrong with an atom is told
+/// wherever it stands, and before there being too many.
+fn last_positions(t: &mut Tally) {
+    let with = |before: usize, atom: &[u8], after: usize| [&vec![b'a'; before], atom, &vec![b'a'; after]].concat();
+    for atom in [&b"b=7"[..], b"[b-d]=1", b"[^a-z]=9", b".=5", b"\\*=3", b"[~ a]*", b"(b=2|[a-c]=4)"] {
+        for before in [0, 1, 30, 57, 58, 59] {
+            let pattern = with(before, atom, 59 - before);
+            match model::read(&pattern) {
+                Err(refusal) => refuses(t, &pattern, refusal),
+                Ok(p) => {
+                    t.same(vet(&pattern, EVIDENCE, 2).map(|v| matches!(v, Vetted::Verdict { .. })), Ok(true), &show(&pattern));
+                    for b in b"ab* ~" {
+                        as_in_model(t, &pattern, &p, &with(before, &[*b], 59 - before), None);
+                        as_in_model(t, &pattern, &p, &with(59 - before, &[*b], before), None);
+                    }
+                }
+            }
+            refuses(t, &with(before, atom, 60), 8);
+            refuses(t, &with(60, atom, before), 8);
+        }
+    }
+    let broken = [&b"[^^ -~]"[..], b"a=0", b"[]", b"[a", b"\\a", b"a**", b"()"].map(|atom| (atom, 5));
+    for (atom, refusal) in [(&b"[z-a]"[..], 6), (b"[b-dz-a]", 6), (b"[^ -~]", 7)].into_iter().chain(broken) {
+        for before in [0, 1, 58, 59, 60, 61, 62, 300, 500] {
+            let pattern = with(before, atom, 0);
+            refuses(t, &pattern, refusal);
+            t.same(model::read(&pattern).err(), Some(refusal), "the model");
+            for after in [1, 59, 60, 61, 504usize.saturating_sub(before)] {
+                if before + atom.len() + after <= 512 {
+                    refuses(t, &with(before, atom, after), refusal);
+                }
+            }
+        }
+    }
+    for n in [0, 58, 59, 60, 61, 200, 450] {
+        refuses(t, &[b"[^ -~]", &with(n, b"[z-a]", 1)[..]].concat(), 6);
+        refuses(t, &[b"[z-a]", &with(n, b"[^ -~]", 1)[..]].concat(), 6);
+        refuses(t, &[b"[z-a][^ -~]", &with(n, b"{", 1)[..]].concat(), 5);
+        refuses(t, &[b"([z-a]|[^ -~])*", &with(n, b")", 1)[..]].concat(), 5);
+        refuses(t, &[b"(((", &with(n, b"[^ -~]))*)", 1)[..]].concat(), 7);
+        refuses(t, &[b"(((", &with(n, b"[b-a]))*)", 1)[..]].concat(), 6);
+    }
+}
+
+/// Answers up to 255 letters and longer ones, with letters that the pattern has and has not, and with bytes that are no letters.
+fn short_and_long(t: &mut Tally) {
+    let sixty: Vec<u8> = (b'A'..=b'Z').chain(b'a'..=b'z').chain(b'0'..=b'7').collect();
+    let alternatives = [b"(", &sixty.iter().map(|c| [*c]).collect::<Vec<_>>().join(&b"=2|"[..])[..], b")*"].concat();
+    let joined = [b"(", &sixty[..], b")*"].concat();
+    for pattern in [&b".*"[..], b"a=1*a=2*", b"(a=1|b=2|[c-f]=3)*", b"[^a]*", b"(a|a)*b?", &joined, &alternatives] {
+        let p = model::read(pattern).expect("a good pattern");
+        for n in [255, 256, 257] {
+            let of = |letter: &dyn Fn(usize) -> u8| (0..n).map(letter).collect::<Vec<u8>>();
+            let mut answers = vec![of(&|_| b'a'), of(&|k| 32 + (k % 95) as u8), of(&|k| sixty[k % 60]), of(&|k| b"abcdef"[k * k % 6])];
+            for at in [0, n / 2, n - 1] {
+                for other in [b'b', b'~', b'g', 0, 31, 127, 255] {
+                    let mut answer = vec![b'a'; n];
+                    answer[at] = other;
+                    answers.push(answer);
+                }
+            }
+            for answer in answers {
+                as_in_model(t, pattern, &p, &answer, None);
+            }
+        }
+    }
+    for b in 0..=255u8 {
+        for n in [255, 256] {
+            let answer = [&vec![b' '; n - 1][..], &[b]].concat();
+            let want = if model::is_letter(b) { Marked::Answer { count: 1, mark: 0 } } else { Marked::Refused(10) };
+            t.same(mark(b".*", &answer), Ok(want), &format!("byte {b} after {} spaces", n - 1));
+        }
+    }
+}
+
+/// What a call is given and finds plays no part in the next.
+fn one_after_another(t: &mut Tally) {
+    let alternatives = [b"(", &b".=9|".repeat(59)[..], b".)*"].concat();
+    let full = [b"[ -~]=9*".repeat(60), b".=9".repeat(170), vec![b'('; 512], b"([^ -~]|[z-a]=9)*".to_vec(), alternatives];
+    for small in [&b"a"[..], b"a?", b"(a|b=1)*c", b"[b-d]e", b"a)", b"(a|a)*"] {
+        let alone = (vet(small, EVIDENCE, 4), mark(small, b"a"), mark(small, b""));
+        for before in &full {
+            let _ = (vet(before, EVIDENCE, 8), mark(before, &[b'~'; 4096]));
+            let now = (vet(small, EVIDENCE, 4), mark(small, b"a"), mark(small, b""));
+            t.same(now, alone.clone(), &format!("{} after {}", show(small), show(&before[..8])));
+        }
+        match model::read(small) {
+            Err(refusal) => refuses(t, small, refusal),
+            Ok(p) => as_in_model(t, small, &p, b"a", None),
+        }
+    }
+}
+
 /// Scratch with garbage in it changes nothing, and too little of it is refused.
 fn scratch(t: &mut Tally) {
     let stars = b"a*".repeat(60);
@@ -242,17 +336,18 @@ fn random_cases(t: &mut Tally, patterns: usize, seed: u64) {
                 let regex = posix::Regex::new(&p);
                 t.check(regex.is_some(), || format!("regcomp of {}", show(&text)));
                 for _ in 0..3 {
-                    one_answer(t, &mut r, &text, &p, regex.as_ref());
+                    let answer = random::answer(&mut r, &p);
+                    as_in_model(t, &text, &p, &answer, regex.as_ref());
                 }
             }
         }
     }
 }
 
-fn one_answer(t: &mut Tally, r: &mut Random, text: &[u8], p: &model::Pattern, regex: Option<&posix::Regex>) {
-    let answer = random::answer(r, p);
-    let got = mark(text, &answer);
-    let name = || format!("mark {} on {}: {got:?}", show(text), show(&answer));
+/// The count and the mark of an answer, or its refusal, are the model's.
+fn as_in_model(t: &mut Tally, text: &[u8], p: &model::Pattern, answer: &[u8], regex: Option<&posix::Regex>) {
+    let got = mark(text, answer);
+    let name = || format!("mark {} on {}: {got:?}", show(text), show(answer));
     if answer.iter().any(|b| !model::is_letter(*b)) {
         t.check(got == Ok(Marked::Refused(10)), name);
         return;
@@ -261,13 +356,13 @@ fn one_answer(t: &mut Tally, r: &mut Random, text: &[u8], p: &model::Pattern, re
         t.check(false, name);
         return;
     };
-    if let Some(lists) = p.readings(&answer, 20_000) {
+    if let Some(lists) = p.readings(answer, 20_000) {
         let best = lists.iter().map(|l| p.credit(l)).max().unwrap_or(0);
         t.check(count == lists.len() as u64 && u64::from(mark) == best, || format!("{}; want {} and {best}", name(), lists.len()));
     }
-    t.check(u128::from(count) == p.count_from_the_end(&answer, u128::from(MOST)), name);
+    t.check(u128::from(count) == p.count_from_the_end(answer, u128::from(MOST)), name);
     if let Some(x) = regex {
-        t.check((count > 0) == x.matches(&answer), || format!("{}; regexec says {}", name(), x.matches(&answer)));
+        t.check((count > 0) == x.matches(answer), || format!("{}; regexec says {}", name(), x.matches(answer)));
     }
 }
 
@@ -278,6 +373,9 @@ fn main() {
     let mut t = Tally { passed: 0, failed: 0 };
     specimens(&mut t);
     edges(&mut t);
+    last_positions(&mut t);
+    short_and_long(&mut t);
+    one_after_another(&mut t);
     scratch(&mut t);
     threads(&mut t);
     pages::run(&mut t);
