@@ -179,6 +179,7 @@ fn vetting() {
 /// Reading alone: a mark of the empty answer.
 fn reading() {
     println!("\nreading, by a mark of the empty answer         library     plain   ratio");
+    let mut ratios = Vec::new();
     for (name, list) in patterns() {
         let n = 200;
         let run = |f: fn(&[u8], &[u8]) -> Result<(u64, u32), u8>| {
@@ -192,7 +193,10 @@ fn reading() {
         };
         let (lib, plain) = (run(mark), run(plain::mark));
         println!("{:44} {:8.2} {:9.2}  {:6.2}", name, lib * 1e6, plain * 1e6, lib / plain);
+        ratios.push(lib / plain);
     }
+    let mean = (ratios.iter().map(|r| r.ln()).sum::<f64>() / ratios.len() as f64).exp();
+    println!("{:44} {:8} {:9}  {:6.2}", "geometric mean", "", "", mean);
 }
 
 /// How the library's time grows with an answer's letters and with a pattern's positions, and what a term takes.
