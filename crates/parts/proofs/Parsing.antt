@@ -24,7 +24,7 @@ use Rattle.atoms.proofs.Places.{next-within}
 use Rattle.parts.specs.declared.Parsed.{Parsed}
 use Rattle.links.specs.Rows.{Marks, Linked}
 use Rattle.parts.specs.Parsing.{Shape, shapeOf, Memory, memory, Has, StandsFor, Stands, Parses, Letters, both, barNext, closedRead, Changes, Repeats}
-use Rattle.parts.proofs.Storing.{Sets, Past, one-stored}
+use Rattle.parts.proofs.Storing.{Filled, Full, one-stored}
 use Rattle.parts.proofs.Joining.{has-letter, has-at, has-again}
 
 -- ---- a result
@@ -57,7 +57,7 @@ parses-as F rank s at n m d e f g = subst (λ (x : Memory × Parsed). Parses F r
 -- ---- a lettered atom
 
 pub letter-stands : (s : List ℕ) (at n own : ℕ) (sets credits sets′ credits′ : List ℕ) (R : Read) (l : Lettered) → ReadsAtom s at R l → l .good ≡ true → n ≤ at → Marks own (λ b. eqb b (n + 1))
-    → length credits ≡ 61 → Sets (n + 1) (l .set) (l .credit) sets credits sets′ credits′ ⊎ Past (n + 1) sets credits sets′ credits′
+    → length credits ≡ 61 → Filled (n + 1) (l .set) (l .credit) sets credits sets′ credits′ ⊎ Full (n + 1) sets credits sets′ credits′
     → Letters s at n sets credits sets′ credits′ R record { good = true; at = l .at; n = n + 1; empty = false; firsts = own; lasts = own; reversed = l .reversed; hollow = l .hollow }
 letter-stands s at n own sets credits sets′ credits′ R l w g few m long put rows =
     let made : Parsed = record { good = true; at = l .at; n = n + 1; empty = false; firsts = own; lasts = own; reversed = l .reversed; hollow = l .hollow } in

@@ -54,22 +54,22 @@ one-more {F} what shown shown′ al x others here full same i = ⊎-elim past ro
         (λ d. others i d ∙ same i ∙ old ∙ sym (all ∙ ap what (last-other (noAtom ∷ al) x noAtom i d)))
 
 -- the entry k of both tables is set, where there is one
-pub record Sets (k : ℕ) (s : LetterSet) (credit : ℕ) (sets credits sets′ credits′ : List ℕ) : Type 0 where
+pub record Filled (k : ℕ) (s : LetterSet) (credit : ℕ) (sets credits sets′ credits′ : List ℕ) : Type 0 where
   pub letters : Writes k s sets sets′
   pub numbers : credits′ ≡ set credits k credit
   pub room : k < 61
 
-pub record Past (k : ℕ) (sets credits sets′ credits′ : List ℕ) : Type 0 where
+pub record Full (k : ℕ) (sets credits sets′ credits′ : List ℕ) : Type 0 where
   pub letters : sets′ ≡ sets
   pub numbers : credits′ ≡ credits
   pub full : 61 ≤ k
 
 pub one-stored : (al : List Atom) (x : Atom) (k : ℕ) (s : LetterSet) (credit : ℕ) (sets credits sets′ credits′ : List ℕ) → length credits ≡ 61 → k ≡ suc (length al)
-    → Sets k s credit sets credits sets′ credits′ ⊎ Past k sets credits sets′ credits′
+    → Filled k s credit sets credits sets′ credits′ ⊎ Full k sets credits sets′ credits′
     → ((c : ℕ) → hasLetter s c ≡ holds x c) → credit ≡ x .credit → credit ≤ 9 → Stored al sets credits → Stored (al ++ (x ∷ [])) sets′ credits′
 one-stored al x k s credit sets credits sets′ credits′ long is put held earns low st = ⊎-elim stored kept put
   where
-    stored : Sets k s credit sets credits sets′ credits′ → Stored (al ++ (x ∷ [])) sets′ credits′
+    stored : Filled k s credit sets credits sets′ credits′ → Stored (al ++ (x ∷ [])) sets′ credits′
     stored w =
         let room = w .room in
         record {
@@ -84,7 +84,7 @@ one-stored al x k s credit sets credits sets′ credits′ long is put held earn
           small = λ i. omega (arith, ap (λ (l : List ℕ). getD l i 0) (w .numbers), set-keeps (λ (n : ℕ). n ≤ 9) credits k credit 0 low (st .small) i);
         }
 
-    kept : Past k sets credits sets′ credits′ → Stored (al ++ (x ∷ [])) sets′ credits′
+    kept : Full k sets credits sets′ credits′ → Stored (al ++ (x ∷ [])) sets′ credits′
     kept w =
         let full = w .full in
         record {
