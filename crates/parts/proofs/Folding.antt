@@ -5,7 +5,6 @@ use mathlib.Core.Path.{_≡_, refl, sym, ap, _∙_, subst}
 use mathlib.Core.Bool.{Bool, true, false, _&&_}
 use mathlib.Core.List.{List}
 use Prim.Native.Nat.{ℕ, zero, suc, _+_, _-_, _*_, _<_, _≤_}
-use native.Mathlib.Nat.{add-zero}
 use native.Mathlib.Omega.{arith}
 use lib.ListN.{length, drop}
 use lib.Seq.{drop-drop}
@@ -15,7 +14,7 @@ use Rattle.pattern.specs.Parts.{Part, joined, either}
 use Rattle.pattern.specs.Grammar.{Read, read, broken, goesOn, pieceFrom, branchFrom, patternFrom}
 use Rattle.parts.specs.declared.Parsed.{Parsed}
 use Rattle.parts.specs.Parsing.{Shape, shapeOf, Memory, memory, Has, StandsFor, Stands, Parses, both, barNext, nothingRead, Follows, Either, Joins}
-use Rattle.parts.proofs.Parsing.{stands-not, moves, bar-within}
+use Rattle.parts.proofs.Parsing.{stands-not, moves}
 use Rattle.parts.proofs.Joining.{has-nothing, has-either, has-joined}
 use Rattle.parts.proofs.Shapes.{joinedShape, eitherShape, noShape, joined-none, joined-assoc, either-none, either-assoc}
 
@@ -23,57 +22,124 @@ use Rattle.parts.proofs.Shapes.{joinedShape, eitherShape, noShape, join
 abbrev pub placed : Parsed → ℕ → Parsed
 placed r t = record { good = r .good; at = t; n = r .n; empty = r .empty; firsts = r .firsts; lasts = r .lasts; reversed = r .reversed; hollow = r .hollow }
 
--- `self` reads a `first` and, on a test of what comes next and some bytes on, joins more of its own kind to it; op is that joining
--- of shapes, with nothing on its left where `none` says whether nothing can be empty
-module _ (first self : ℕ → List ℕ → Read) (rank skip : ℕ) (test : List ℕ → Bool) (combine : Part → Part → Part) (op : Shape → Shape → Shape) (none : Bool) (step : (f : ℕ) (s : List ℕ) → self (suc f) s ≡ (if first f s .good && test (first f s .rest) then both combine (first f s) (self f (drop skip (first f s .rest))) else first f s)) (shapes : (p q : Part) → shapeOf (combine p q) ≡ op (shapeOf p) (shapeOf q)) (unit : (x : Shape) → op (noShape none) x ≡ x) (assoc : (x y z : Shape) → op (op x y) z ≡ op x (op y z)) (s : List ℕ) (at n : ℕ) (m : Memory) where
+-- A loop that folds: `self` reads a `first` and, on a test of what comes next and some bytes on, combines it with more of its own kind.
+-- For shapes op does so, with a unit, which can be empty where `none` says so; for a and b in the program, and for the memory after b,
+-- Combined says that r and the memory after it are what they are combined to.
+pub record Fold : Type 1 where
+  pub first : ℕ → List ℕ → Read
+  pub self : ℕ → List ℕ → Read
+  pub rank : ℕ
+  pub skip : ℕ
+  pub test : List ℕ → Bool
+  pub combine : Part → Part → Part
+  pub step : (f : ℕ) (s : List ℕ) → self (suc f) s ≡ (if first f s .good && test (first f s .rest) then both combine (first f s) (self f (drop skip (first f s .rest))) else first f s)
+  pub op : Shape → Shape → Shape
+  pub none : Bool
+  pub shapes : (p q : Part) → shapeOf (combine p q) ≡ op (shapeOf p) (shapeOf q)
+  pub unit : (x : Shape) → op (noShape none) x ≡ x
+  pub assoc : (x y z : Shape) → op (op x y) z ≡ op x (op y z)
+  pub Combined : Memory → Memory → Parsed → Parsed → Parsed → Type 0
+  pub follows : (m m′ : Memory) (a b r : Parsed) → Combined m m′ a b r → Follows a b r
+  pub has : (n : ℕ) (m m₁ m₂ m₃ : Memory) (x y : Shape) (a b r : Parsed) → Has n m m₁ x a → Has (a .n) m₁ m₂ y b → Combined m₂ m₃ a b r → Has n m m₃ (op x y) r
+
+-- pieces to a branch
+abbrev pub pieces : Fold
+pieces = record {
+  first = pieceFrom;
+  self = branchFrom;
+  rank = 0;
+  skip = 0;
+  test = goesOn;
+  combine = joined;
+  step = λ f s. refl;
+  op = joinedShape;
+  none = true;
+  shapes = λ p q. refl;
+  unit = joined-none;
+  assoc = joined-assoc;
+  Combined = λ m m′ a b r. Joins (m .rows) (m′ .rows) a b r × (m′ ≡ memory (m′ .rows) (m .sets) (m .credits));
+  follows = λ m m′ a b r e. e .0 .follows;
+  has = λ n m m₁ m₂ m₃ x y a b r ha hb e. subst (λ (k : Memory). Has n m k (joinedShape x y) r) (sym (e .1)) (has-joined n m m₁ m₂ x y a b ha hb (m₃ .rows) r (e .0));
+}
+
+-- branches to a pattern
+abbrev pub branches : Fold
+branches = record {
+  first = branchFrom;
+  self = patternFrom;
+  rank = 1;
+  skip = 1;
+  test = barNext;
+  combine = either;
+  step = λ f s. refl;
+  op = eitherShape;
+  none = false;
+  shapes = λ p q. refl;
+  unit = either-none;
+  assoc = either-assoc;
+  Combined = λ m m′ a b r. Either a b r × (m′ ≡ m);
+  follows = λ m m′ a b r e. e .0 .follows;
+  has = λ n m m₁ m₂ m₃ x y a b r ha hb e. subst (λ (k : Memory). Has n m k (eitherShape x y) r) (sym (e .1)) (has-either n m m₁ m₂ x y a b ha hb r (e .0));
+}
+
+module _ (F : Fold) (s : List ℕ) (at n : ℕ) (m : Memory) where
   -- r stands for the shape x and, joined to it, what the grammar reads at the depth d from t on
   abbrev Rest : ℕ → Shape → ℕ → Memory → Parsed → Type 0
-  Rest d x t m′ r = let R = self d (drop t s) in StandsFor s at n m m′ (R .good) (op x (shapeOf (R .part))) (R .rest) r
+  Rest d x t m′ r = let R = F .self d (drop t s) in StandsFor s at n m m′ (R .good) (F .op x (shapeOf (R .part))) (R .rest) r
 
   -- a, and the memory now, have the shape of what was read so far of what the grammar reads at the depth f
   pub record Partly (f : ℕ) (now : Memory) (a : Parsed) : Type 0 where
     pub depth : ℕ
-    pub enough : 3 * (length s - a .at) + suc rank < depth
+    pub enough : 3 * (length s - a .at) + suc (F .rank) < depth
     pub shape : Shape
     pub has : Has n m now shape a
-    pub goes : (m′ : Memory) (r : Parsed) → Rest depth shape (a .at) m′ r → Stands s at n m m′ (self f (drop at s)) r
+    pub goes : (m′ : Memory) (r : Parsed) → Rest depth shape (a .at) m′ r → Stands s at n m m′ (F .self f (drop at s)) r
 
   pub record Sofar (now : Memory) (a : Parsed) : Type 0 where
     pub on : at ≤ a .at
     pub few : a .n ≤ a .at
-    pub partly : (f : ℕ) → 3 * (length s - at) + suc rank < f → Partly f now a
+    pub partly : (f : ℕ) → 3 * (length s - at) + suc (F .rank) < f → Partly f now a
 
-  pub begins : n ≤ at → Sofar m (nothingRead at n none)
-  begins l = record {
+  begin : n ≤ at → Sofar m (nothingRead at n (F .none))
+  begin l = record {
     on = omega arith;
     few = l;
     partly = λ f h. record {
       depth = f;
       enough = h;
-      shape = noShape none;
-      has = has-nothing at n m none;
-      goes = λ m′ r w. let R = self f (drop at s) in subst (λ (x : Shape). StandsFor s at n m m′ (R .good) x (R .rest) r) (unit (shapeOf (R .part))) w;
+      shape = noShape (F .none);
+      has = has-nothing at n m (F .none);
+      goes = λ m′ r w. let R = F .self f (drop at s) in subst (λ (x : Shape). StandsFor s at n m m′ (R .good) x (R .rest) r) (F .unit (shapeOf (R .part))) w;
     };
   }
 
-  -- one more, b, is joined to a: that is r
-  module _ (now now′ now″ : Memory) (a b r : Parsed) (so : Sofar now a) (parses : Parses first rank s (a .at) (a .n) now now′ b) (follows : Follows a b r) (has : (x y : Shape) → Has n m now x a → Has (a .n) now now′ y b → Has n m now″ (op x y) r) where
+  pub begins : n ≤ at → (a : Parsed) → a ≡ nothingRead at n (F .none) → Sofar m a
+  begins l a e = subst (Sofar m) (sym e) (begin l)
+
+  -- one more, b, is combined with a: that is r
+  module _ (now now′ now″ : Memory) (a b r : Parsed) (so : Sofar now a) (parses : Parses (F .first) (F .rank) s (a .at) (a .n) now now′ b) (combined : F .Combined now′ now″ a b r) where
+    follows : Follows a b r
+    follows = F .follows now′ now″ a b r combined
+
+    has : (x y : Shape) → Has n m now x a → Has (a .n) now now′ y b → Has n m now″ (F .op x y) r
+    has x y hx hy = F .has n m now now′ now″ x y a b r hx hy combined
+
     abbrev here : ℕ → Read
-    here f = first f (drop (a .at) s)
+    here f = F .first f (drop (a .at) s)
 
     -- the test is the code's
-    tested : (f : ℕ) → Stands s (a .at) (a .n) now now′ (here f) b → (here f .good && test (here f .rest)) ≡ (r .good && test (drop (r .at) s))
+    tested : (f : ℕ) → Stands s (a .at) (a .n) now now′ (here f) b → (here f .good && F .test (here f .rest)) ≡ (r .good && F .test (drop (r .at) s))
     tested f v =
-        ap (λ (g : Bool). g && test (here f .rest)) (sym (v .same))
-        ∙ and-when (b .good) (test (here f .rest)) (test (drop (b .at) s)) (λ g. ap test (v .gives g .goes))
-        ∙ sym (ap (λ (g : Bool). g && test (drop (r .at) s)) (follows .good) ∙ ap (λ (t : ℕ). b .good && test (drop t s)) (follows .place))
+        ap (λ (g : Bool). g && F .test (here f .rest)) (sym (v .same))
+        ∙ and-when (b .good) (F .test (here f .rest)) (F .test (drop (b .at) s)) (λ g. ap (F .test) (v .gives g .goes))
+        ∙ sym (ap (λ (g : Bool). g && F .test (drop (r .at) s)) (follows .good) ∙ ap (λ (t : ℕ). b .good && F .test (drop t s)) (follows .place))
 
-    last-one : (r .good && test (drop (r .at) s)) ≡ false → (d : ℕ) (x : Shape) → 3 * (length s - a .at) + suc rank < d → Has n m now x a → Rest d x (a .at) now″ r
+    last-one : (r .good && F .test (drop (r .at) s)) ≡ false → (d : ℕ) (x : Shape) → 3 * (length s - a .at) + suc (F .rank) < d → Has n m now x a → Rest d x (a .at) now″ r
     last-one e zero x h hx = absurd (omega arith)
     last-one e (suc f) x h hx =
         let v : Stands s (a .at) (a .n) now now′ (here f) b = parses f (omega arith) in
-        subst (λ (R : Read). StandsFor s at n m now″ (R .good) (op x (shapeOf (R .part))) (R .rest) r)
-        (sym (step f (drop (a .at) s) ∙ if-no (both combine (here f) (self f (drop skip (here f .rest)))) (here f) (here f .good && test (here f .rest)) (tested f v ∙ e)))
+        subst (λ (R : Read). StandsFor s at n m now″ (R .good) (F .op x (shapeOf (R .part))) (R .rest) r)
+        (sym (F .step f (drop (a .at) s) ∙ if-no (both (F .combine) (here f) (F .self f (drop (F .skip) (here f .rest)))) (here f) (here f .good && F .test (here f .rest)) (tested f v ∙ e)))
         record {
           same = follows .good ∙ v .same;
           gives = λ g.
@@ -85,31 +151,31 @@ module _ (first self : ℕ → List ℕ → Read) (rank skip : ℕ) (test : List
         }
 
     -- it was the last
-    pub ends : (r .good && test (drop (r .at) s)) ≡ false → Parses self (suc rank) s at n m now″ r
+    pub ends : (r .good && F .test (drop (r .at) s)) ≡ false → Parses (F .self) (suc (F .rank)) s at n m now″ r
     ends e f h = let w = so .partly f h in w .goes now″ r (last-one e (w .depth) (w .shape) (w .enough) (w .has))
 
     -- or another comes, from t on
-    module _ (t : ℕ) (there : t ≡ r .at + skip) (e : (r .good && test (drop (r .at) s)) ≡ true) where
+    module _ (t : ℕ) (there : t ≡ r .at + (F .skip)) (e : (r .good && F .test (drop (r .at) s)) ≡ true) where
       good : b .good ≡ true
-      good = sym (follows .good) ∙ and-parts (r .good) (test (drop (r .at) s)) e .0
+      good = sym (follows .good) ∙ and-parts (r .good) (F .test (drop (r .at) s)) e .0
 
-      more : (x : Shape) (A B : Read) (m′ : Memory) (r′ : Parsed) → StandsFor s at n m m′ (B .good) (op (op x (shapeOf (A .part))) (shapeOf (B .part))) (B .rest) r′
-          → StandsFor s at n m m′ (both combine A B .good) (op x (shapeOf (both combine A B .part))) (both combine A B .rest) r′
+      more : (x : Shape) (A B : Read) (m′ : Memory) (r′ : Parsed) → StandsFor s at n m m′ (B .good) (F .op (F .op x (shapeOf (A .part))) (shapeOf (B .part))) (B .rest) r′
+          → StandsFor s at n m m′ (both (F .combine) A B .good) (F .op x (shapeOf (both (F .combine) A B .part))) (both (F .combine) A B .rest) r′
       more x A B m′ r′ w =
           by-test (B .good)
           (λ g.
-          subst (λ (R : Read). StandsFor s at n m m′ (R .good) (op x (shapeOf (R .part))) (R .rest) r′) (sym (if-yes (read (combine (A .part) (B .part)) (B .rest)) broken (B .good) g))
+          subst (λ (R : Read). StandsFor s at n m m′ (R .good) (F .op x (shapeOf (R .part))) (R .rest) r′) (sym (if-yes (read (F .combine (A .part) (B .part)) (B .rest)) broken (B .good) g))
           record {
             same = w .same ∙ g;
             gives = λ k.
                 let y = w .gives k in
-                record { on = y .on; within = y .within; few = y .few; goes = y .goes; has = subst (λ (z : Shape). Has n m m′ z r′) (assoc x (shapeOf (A .part)) (shapeOf (B .part)) ∙ ap (op x) (sym (shapes (A .part) (B .part)))) (y .has) };
+                record { on = y .on; within = y .within; few = y .few; goes = y .goes; has = subst (λ (z : Shape). Has n m m′ z r′) (F .assoc x (shapeOf (A .part)) (shapeOf (B .part)) ∙ ap (F .op x) (sym (F .shapes (A .part) (B .part)))) (y .has) };
           })
           (λ g.
-          subst (λ (R : Read). StandsFor s at n m m′ (R .good) (op x (shapeOf (R .part))) (R .rest) r′) (sym (if-no (read (combine (A .part) (B .part)) (B .rest)) broken (B .good) g))
-          (stands-not s at n m m′ false (op x (shapeOf (broken .part))) (broken .rest) r′ (w .same ∙ g) refl))
+          subst (λ (R : Read). StandsFor s at n m m′ (R .good) (F .op x (shapeOf (R .part))) (R .rest) r′) (sym (if-no (read (F .combine (A .part) (B .part)) (B .rest)) broken (B .good) g))
+          (stands-not s at n m m′ false (F .op x (shapeOf (broken .part))) (broken .rest) r′ (w .same ∙ g) refl))
 
-      next-one : (f d : ℕ) (x : Shape) → 3 * (length s - a .at) + suc rank < d → Has n m now x a → ((m′ : Memory) (r′ : Parsed) → Rest d x (a .at) m′ r′ → Stands s at n m m′ (self f (drop at s)) r′)
+      next-one : (f d : ℕ) (x : Shape) → 3 * (length s - a .at) + suc (F .rank) < d → Has n m now x a → ((m′ : Memory) (r′ : Parsed) → Rest d x (a .at) m′ r′ → Stands s at n m m′ (F .self f (drop at s)) r′)
           → Partly f now″ (placed r t)
       next-one f zero x h hx goes = absurd (omega arith)
       next-one f (suc d) x h hx goes =
@@ -118,80 +184,30 @@ module _ (first self : ℕ → List ℕ → Read) (rank skip : ℕ) (test : List
           let y = v .gives good in
           let place = follows .place in
           let all = has x (shapeOf (A .part)) hx (y .has) in
-          let is : self (suc d) (drop (a .at) s) ≡ both combine A (self d (drop t s)) = step d (drop (a .at) s) ∙ if-yes (both combine A (self d (drop skip (A .rest)))) A (A .good && test (A .rest)) (tested d v ∙ e)
-          ∙ ap (λ (l : List ℕ). both combine A (self d l)) (ap (drop skip) (y .goes) ∙ drop-drop skip (b .at) s ∙ ap (λ (k : ℕ). drop k s) (ap (λ (k : ℕ). k + skip) (sym place) ∙ sym there)) in
+          let is : (F .self) (suc d) (drop (a .at) s) ≡ both (F .combine) A (F .self d (drop t s)) = F .step d (drop (a .at) s) ∙ if-yes (both (F .combine) A (F .self d (drop (F .skip) (A .rest)))) A (A .good && F .test (A .rest)) (tested d v ∙ e)
+          ∙ ap (λ (l : List ℕ). both (F .combine) A (F .self d l)) (ap (drop (F .skip)) (y .goes) ∙ drop-drop (F .skip) (b .at) s ∙ ap (λ (k : ℕ). drop k s) (ap (λ (k : ℕ). k + (F .skip)) (sym place) ∙ sym there)) in
           record {
             depth = d;
             enough = let on = y .on in let within = y .within in omega arith;
-            shape = op x (shapeOf (A .part));
+            shape = F .op x (shapeOf (A .part));
             has = record { count = all .count; empty = all .empty; firsts = all .firsts; lasts = all .lasts; reversed = all .reversed; hollow = all .hollow; adds = all .adds; stores = all .stores };
-            goes = λ m′ r′ w. goes m′ r′ (subst (λ (R : Read). StandsFor s at n m m′ (R .good) (op x (shapeOf (R .part))) (R .rest) r′) (sym is) (more x A (self d (drop t s)) m′ r′ w));
+            goes = λ m′ r′ w. goes m′ r′ (subst (λ (R : Read). StandsFor s at n m m′ (R .good) (F .op x (shapeOf (R .part))) (R .rest) r′) (sym is) (more x A (F .self d (drop t s)) m′ r′ w));
           }
 
-      pub further : (a .at < t) × (r .at ≤ length s)
-      further =
-          let k = moves first rank s (a .at) (a .n) now now′ b parses good in
+      pub goes-on : Sofar now″ (placed r t) × (a .at < t) × (r .at ≤ length s)
+      goes-on =
+          let k = moves (F .first) (F .rank) s (a .at) (a .n) now now′ b parses good in
           let on = k .0 in
           let within = k .1 in
-          let place = follows .place in
-          (omega arith, omega arith)
-
-      pub goes-further : Sofar now″ (placed r t)
-      goes-further =
-          let k = moves first rank s (a .at) (a .n) now now′ b parses good in
-          let on = k .0 in
           let few = k .2 in
           let place = follows .place in
           let count = follows .count in
-          let start = so .on in
-          record {
-            on = omega arith;
-            few = omega arith;
-            partly = λ f h. let w = so .partly f h in next-one f (w .depth) (w .shape) (w .enough) (w .has) (w .goes);
-          }
-
--- ---- a branch of pieces
-
-module _ (s : List ℕ) (at n : ℕ) (m : Memory) where
-  abbrev pub BranchSofar : Memory → Parsed → Type 0
-  BranchSofar now a = Sofar pieceFrom branchFrom 0 0 goesOn joined joinedShape true (λ f l. refl) (λ p q. refl) joined-none joined-assoc s at n m now a
-
-  pub branch-begins : n ≤ at → (a : Parsed) → a ≡ nothingRead at n true → BranchSofar m a
-  branch-begins l a e =
-      subst (BranchSofar m) (sym e)
-      (begins pieceFrom branchFrom 0 0 goesOn joined joinedShape true (λ f l. refl) (λ p q. refl) joined-none joined-assoc s at n m l)
-
-  module _ (now now′ : Memory) (rows : List ℕ) (a b r : Parsed) (so : BranchSofar now a) (parses : Parses pieceFrom 0 s (a .at) (a .n) now now′ b) (joins : Joins (now′ .rows) rows a b r) where
-    pub branch-ends : (r .good && goesOn (drop (r .at) s)) ≡ false → Parses branchFrom 1 s at n m (memory rows (now′ .sets) (now′ .credits)) r
-    branch-ends =
-        ends pieceFrom branchFrom 0 0 goesOn joined joinedShape true (λ f l. refl) (λ p q. refl) joined-none joined-assoc s at n m now now′ _ a b r so parses (joins .follows)
-        (λ x y hx hy. has-joined n m now now′ x y a b hx hy rows r joins)
-
-    pub branch-goes : (r .good && goesOn (drop (r .at) s)) ≡ true → BranchSofar (memory rows (now′ .sets) (now′ .credits)) r × (a .at < r .at) × (r .at ≤ length s)
-    branch-goes e =
-        let has : (x y : Shape) → Has n m now x a → Has (a .n) now now′ y b → Has n m (memory rows (now′ .sets) (now′ .credits)) (joinedShape x y) r = λ x y hx hy. has-joined n m now now′ x y a b hx hy rows r joins in
-        let more = further pieceFrom branchFrom 0 0 goesOn joined joinedShape true (λ f l. refl) (λ p q. refl) joined-none joined-assoc s at n m now now′ _ a b r so parses (joins .follows) has (r .at) (sym (add-zero (r .at))) e in
-        (goes-further pieceFrom branchFrom 0 0 goesOn joined joinedShape true (λ f l. refl) (λ p q. refl) joined-none joined-assoc s at n m now now′ _ a b r so parses (joins .follows) has (r .at) (sym (add-zero (r .at))) e, more .0, more .1)
-
--- ---- a pattern of branches
-
-module _ (s : List ℕ) (at n : ℕ) (m : Memory) where
-  abbrev pub PatternSofar : Memory → Parsed → Type 0
-  PatternSofar now a = Sofar branchFrom patternFrom 1 1 barNext either eitherShape false (λ f l. refl) (λ p q. refl) either-none either-assoc s at n m now a
-
-  pub pattern-begins : n ≤ at → (a : Parsed) → a ≡ nothingRead at n false → PatternSofar m a
-  pattern-begins l a e =
-      subst (PatternSofar m) (sym e)
-      (begins branchFrom patternFrom 1 1 barNext either eitherShape false (λ f l. refl) (λ p q. refl) either-none either-assoc s at n m l)
-
-  module _ (now now′ : Memory) (a b r : Parsed) (so : PatternSofar now a) (parses : Parses branchFrom 1 s (a .at) (a .n) now now′ b) (joins : Either a b r) where
-    pub pattern-ends : (r .good && barNext (drop (r .at) s)) ≡ false → Parses patternFrom 2 s at n m now′ r
-    pattern-ends =
-        ends branchFrom patternFrom 1 1 barNext either eitherShape false (λ f l. refl) (λ p q. refl) either-none either-assoc s at n m now now′ now′ a b r so parses (joins .follows)
-        (λ x y hx hy. has-either n m now now′ x y a b hx hy r joins)
-
-    pub pattern-goes : (r .good && barNext (drop (r .at) s)) ≡ true → PatternSofar now′ (placed r (r .at + 1)) × (a .at < r .at + 1) × (r .at < length s)
-    pattern-goes e =
-        let has : (x y : Shape) → Has n m now x a → Has (a .n) now now′ y b → Has n m now′ (eitherShape x y) r = λ x y hx hy. has-either n m now now′ x y a b hx hy r joins in
-        let more = further branchFrom patternFrom 1 1 barNext either eitherShape false (λ f l. refl) (λ p q. refl) either-none either-assoc s at n m now now′ now′ a b r so parses (joins .follows) has (r .at + 1) refl e in
-        (goes-further branchFrom patternFrom 1 1 barNext either eitherShape false (λ f l. refl) (λ p q. refl) either-none either-assoc s at n m now now′ now′ a b r so parses (joins .follows) has (r .at + 1) refl e, more .0, bar-within s (r .good) (r .at) e)
+          let start = so .on in (
+            record {
+              on = omega arith;
+              few = omega arith;
+              partly = λ f h. let w = so .partly f h in next-one f (w .depth) (w .shape) (w .enough) (w .has) (w .goes);
+            },
+            omega arith,
+            omega arith,
+          )

@@ -58,6 +58,7 @@ pub record Gives (s : List ℕ) (at n : ℕ) (m m′ : Memory) (x : Shape) (rest
   pub goes : rest ≡ drop (r .at) s
   pub has : Has n m m′ x r
 
+-- the same where r is good, and r is good where `good` says so
 pub record StandsFor (s : List ℕ) (at n : ℕ) (m m′ : Memory) (good : Bool) (x : Shape) (rest : List ℕ) (r : Parsed) : Type 0 where
   pub same : r .good ≡ good
   pub gives : r .good ≡ true → Gives s at n m m′ x rest r
@@ -81,7 +82,7 @@ both combine a b = if b .good then read (combine (a .part) (b .part)) (b .rest) 
 abbrev pub barNext : List ℕ → Bool
 barNext s = eqb (peek s) (code "|")
 
--- a pattern in `( )`
+-- a pattern in `( )`: its first byte, and what is made of it with its last
 abbrev pub Opens : List ℕ → ℕ → Type 0
 Opens s at = peek (drop at s) ≡ code "("
 

@@ -86,14 +86,13 @@ fn branch(
     let mut so_far = nothing(at, n, true);
     loop {
         let t = so_far.at;
-        let mut next = so_far;
-        if atoms::byte_at(s, t) == b'(' {
+        let next = if atoms::byte_at(s, t) == b'(' {
             let p = piece(s, t, so_far.n, all, &mut *sets, &mut *credits);
             all = p.rows;
-            next = p.part;
+            p.part
         } else {
-            next = lettered(s, t, so_far.n, &mut all, &mut *sets, &mut *credits);
-        }
+            lettered(s, t, so_far.n, &mut all, &mut *sets, &mut *credits)
+        };
         so_far = join(&mut all, so_far, next);
         if !goes_on(s, so_far.good, so_far.at) {
             return ParsedRows {

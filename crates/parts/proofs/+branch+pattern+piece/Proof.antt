@@ -1,7 +1,11 @@
-use mathlib.Core.Path.{_≡_, sym, ap, _∙_}
+-- Each need is a law of Parsing or Folding at what the callees ensure: in both loops something is read so far, one more is joined to
+-- it, and that was the last one or another follows. The measure is three for each byte left, and a rank, so that it falls where a
+-- callee begins at the same place. Assumes nothing.
+use mathlib.Core.Path.{_≡_, refl, sym, ap, _∙_}
 use mathlib.Core.Logic.{⊎-elim}
 use mathlib.Core.List.{List}
 use Prim.Native.Nat.{ℕ, _<_, _+_, _-_, _*_, _^_}
+use native.Mathlib.Nat.{add-zero}
 use native.Mathlib.Omega.{arith}
 use lib.ListN.{length}
 use borrow.Author.Needs.{needs}
@@ -10,8 +14,8 @@ use Rattle.atoms.proofs.Places.{next-within}
 use Rattle.pattern.specs.Grammar.{pieceFrom}
 use Rattle.parts.specs.Tables.{Sized}
 use Rattle.parts.specs.Parsing.{Memory, memory, Parses}
-use Rattle.parts.proofs.Parsing.{parses-as, piece-letter, piece-open}
-use Rattle.parts.proofs.Folding.{BranchSofar, branch-begins, branch-ends, branch-goes, PatternSofar, pattern-begins, pattern-ends, pattern-goes}
+use Rattle.parts.proofs.Parsing.{parses-as, piece-letter, piece-open, bar-within}
+use Rattle.parts.proofs.Folding.{pieces, branches, Sofar, begins, ends, goes-on}
 use borrow.Fn.Kinds.{In}
 use borrow.Fn.PlainCycle.{Measures, is, falls, and}
 use Rattle.parts.proofs.branch.Reads as branch
@@ -63,7 +67,7 @@ abbrev piece-below : ℕ → In 3 piece-kinds.ps
 piece-below t = and 3 piece-kinds.ps (falls 3 piece-kinds.ps _<_ μ-piece t) piece.Pre
 
 abbrev branch-Inv-loop : branch-lts.InvT-loop
-branch-Inv-loop s at n sets₀ credits₀ all₀ so-far₀ sets credits all so-far = (length all ≡ 61) × Sized sets credits × BranchSofar s at n (memory all₀ sets₀ credits₀) (memory all sets credits) so-far
+branch-Inv-loop s at n sets₀ credits₀ all₀ so-far₀ sets credits all so-far = (length all ≡ 61) × Sized sets credits × Sofar pieces s at n (memory all₀ sets₀ credits₀) (memory all sets credits) so-far
 
 abbrev branch-μ-loop : branch-lts.MeasureT-loop
 branch-μ-loop s at n sets₀ credits₀ all₀ so-far₀ sets credits all so-far = length s - so-far .at
@@ -77,7 +81,7 @@ pattern-env t = (nothing-reads.Asked, nothing-reads.Learnt, branch-below t, bran
 abbrev piece-env : ℕ → piece-lts.Claims
 piece-env t = (pattern-below t, pattern.Post, closed-reads.Asked, closed-reads.Learnt, repeat-reads.Asked, repeat-reads.Learnt)
 
--- ---- a branch: what was read next is a piece, by either way
+-- ---- a branch: what comes next is a piece, a pattern in `( )` or a lettered atom
 
 module _ (t : ℕ) (c : branch-lts.Joined1 (branch-env t) (branch-at t) branch.Post branch-Inv-loop branch-μ-loop) where
   abbrev loop-of : branch-lts.At-loop·own (branch-env t) (branch-at t) branch.Post branch-Inv-loop branch-μ-loop (c .before .before .before)
@@ -112,7 +116,7 @@ branch-nothing-requires : (t : ℕ) → branch-lts.Need-nothing-requires (branch
 branch-nothing-requires t c κs = search needs
 
 branch-loop-holds : (t : ℕ) → branch-lts.Need-loop-holds (branch-env t) (branch-at t) branch.Post branch-Inv-loop branch-μ-loop
-branch-loop-holds t c = (search needs, c .before .before .before .before .pre .1 .1, branch-begins _ _ _ _ (c .before .before .before .before .pre .1 .0) _ (c .nothing .ensures))
+branch-loop-holds t c = (search needs, c .before .before .before .before .pre .1 .1, begins pieces _ _ _ _ (c .before .before .before .before .pre .1 .0) _ (c .nothing .ensures))
 
 branch-byte-at-requires : (t : ℕ) → branch-lts.Need-byte-at-requires (branch-env t) (branch-at t) branch.Post branch-Inv-loop branch-μ-loop
 branch-byte-at-requires t c κs = search needs
@@ -140,20 +144,20 @@ branch-same-length-2 t c = next-sized t (c .before .before .before .before) .cre
 
 branch-returns : (t : ℕ) → branch-lts.Need-returns (branch-env t) (branch-at t) branch.Post branch-Inv-loop branch-μ-loop
 branch-returns t c =
-    branch-ends _ _ _ _ _ _ _ _ _ _ (c .before .before .before .before .before .before .loop .inv .2) (next-parses t (c .before .before .before .before)) (c .before .before .join .ensures .0) (sym (c .before .goes-on .ensures) ∙ not-true (c .before .goes-on .result) (c .if2 .taken))
+    ends pieces _ _ _ _ _ _ _ _ _ _ (c .before .before .before .before .before .before .loop .inv .2) (next-parses t (c .before .before .before .before)) (c .before .before .join .ensures .0, refl) (sym (c .before .goes-on .ensures) ∙ not-true (c .before .goes-on .result) (c .if2 .taken))
 
 branch-loop-less : (t : ℕ) → branch-lts.Need-loop-less (branch-env t) (branch-at t) branch.Post branch-Inv-loop branch-μ-loop
 branch-loop-less t c =
-    let more = branch-goes _ _ _ _ _ _ _ _ _ _ (c .before .before .before .before .before .before .loop .inv .2) (next-parses t (c .before .before .before .before)) (c .before .before .join .ensures .0) (sym (c .before .goes-on .ensures) ∙ not-false (c .before .goes-on .result) (c .if2 .left)) in
+    let more = goes-on pieces _ _ _ _ _ _ _ _ _ _ (c .before .before .before .before .before .before .loop .inv .2) (next-parses t (c .before .before .before .before)) (c .before .before .join .ensures .0, refl) (c .before .before .join .result .at) (sym (add-zero (c .before .before .join .result .at))) (sym (c .before .goes-on .ensures) ∙ not-false (c .before .goes-on .result) (c .if2 .left)) in
     omega (arith, more .1, more .2)
 
 branch-loop-again : (t : ℕ) → branch-lts.Need-loop-again (branch-env t) (branch-at t) branch.Post branch-Inv-loop branch-μ-loop
 branch-loop-again t c =
-    let more = branch-goes _ _ _ _ _ _ _ _ _ _ (c .before .before .before .before .before .before .loop .inv .2) (next-parses t (c .before .before .before .before)) (c .before .before .join .ensures .0) (sym (c .before .goes-on .ensures) ∙ not-false (c .before .goes-on .result) (c .if2 .left)) in
+    let more = goes-on pieces _ _ _ _ _ _ _ _ _ _ (c .before .before .before .before .before .before .loop .inv .2) (next-parses t (c .before .before .before .before)) (c .before .before .join .ensures .0, refl) (c .before .before .join .result .at) (sym (add-zero (c .before .before .join .result .at))) (sym (c .before .goes-on .ensures) ∙ not-false (c .before .goes-on .result) (c .if2 .left)) in
     (c .before .before .join .ensures .1, next-sized t (c .before .before .before .before), more .0)
 
 abbrev pattern-Inv-loop : pattern-lts.InvT-loop
-pattern-Inv-loop s at n sets₀ credits₀ all₀ so-far₀ sets credits all so-far = (length all ≡ 61) × Sized sets credits × PatternSofar s at n (memory all₀ sets₀ credits₀) (memory all sets credits) so-far
+pattern-Inv-loop s at n sets₀ credits₀ all₀ so-far₀ sets credits all so-far = (length all ≡ 61) × Sized sets credits × Sofar branches s at n (memory all₀ sets₀ credits₀) (memory all sets credits) so-far
 
 abbrev pattern-μ-loop : pattern-lts.MeasureT-loop
 pattern-μ-loop s at n sets₀ credits₀ all₀ so-far₀ sets credits all so-far = length s - so-far .at
@@ -162,7 +166,7 @@ pattern-nothing-requires : (t : ℕ) → pattern-lts.Need-nothing-requires (patt
 pattern-nothing-requires t c κs = search needs
 
 pattern-loop-holds : (t : ℕ) → pattern-lts.Need-loop-holds (pattern-env t) (pattern-at t) pattern.Post pattern-Inv-loop pattern-μ-loop
-pattern-loop-holds t c = (search needs, c .before .before .before .before .pre .1 .1, pattern-begins _ _ _ _ (c .before .before .before .before .pre .1 .0) _ (c .nothing .ensures))
+pattern-loop-holds t c = (search needs, c .before .before .before .before .pre .1 .1, begins branches _ _ _ _ (c .before .before .before .before .pre .1 .0) _ (c .nothing .ensures))
 
 pattern-branch-requires : (t : ℕ) → pattern-lts.Need-branch-requires (pattern-env t) (pattern-at t) pattern.Post pattern-Inv-loop pattern-μ-loop
 pattern-branch-requires t c κs =
@@ -184,7 +188,7 @@ pattern-same-length-2 t c = c .before .before .before .before .before .before .b
 
 pattern-returns : (t : ℕ) → pattern-lts.Need-returns (pattern-env t) (pattern-at t) pattern.Post pattern-Inv-loop pattern-μ-loop
 pattern-returns t c =
-    pattern-ends _ _ _ _ _ _ _ _ _ (c .before .before .before .before .before .before .before .before .before .before .before .before .loop .inv .2) (c .before .before .before .before .before .before .before .before .before .branch .ensures) (c .before .before .either .ensures) (sym (c .before .is-bar .ensures) ∙ not-true (c .before .is-bar .result) (c .if1 .taken))
+    ends branches _ _ _ _ _ _ _ _ _ _ (c .before .before .before .before .before .before .before .before .before .before .before .before .loop .inv .2) (c .before .before .before .before .before .before .before .before .before .branch .ensures) (c .before .before .either .ensures, refl) (sym (c .before .is-bar .ensures) ∙ not-true (c .before .is-bar .result) (c .if1 .taken))
 
 -- a text has fewer bytes than a number can count
 text-fits : (t : ℕ) (c : pattern-lts.After-shared-slice-known (pattern-env t) (pattern-at t) pattern.Post pattern-Inv-loop pattern-μ-loop) → length (c .before .args .s .now) < 2 ^ 64
@@ -192,17 +196,19 @@ text-fits t c = omega arith
 
 pattern-add-so-far : (t : ℕ) → pattern-lts.Need-add-so-far (pattern-env t) (pattern-at t) pattern.Post pattern-Inv-loop pattern-μ-loop
 pattern-add-so-far t c =
-    let more = pattern-goes _ _ _ _ _ _ _ _ _ (c .before .before .before .before .before .before .before .before .before .before .before .before .before .loop .inv .2) (c .before .before .before .before .before .before .before .before .before .before .branch .ensures) (c .before .before .before .either .ensures) (sym (c .before .before .is-bar .ensures) ∙ not-false (c .before .before .is-bar .result) (c .before .if1 .left)) in
-    omega (arith, more .2, text-fits t (c .before .before .before .before .before .before .before .before .before .before .before .before .before .before .before .before .before))
+    let bar = sym (c .before .before .is-bar .ensures) ∙ not-false (c .before .before .is-bar .result) (c .before .if1 .left) in
+    omega (arith, bar-within (c .before .before .before .before .before .before .before .before .before .before .before .before .before .before .before .before .before .before .args .s .now) (c .before .before .before .either .result .good) (c .before .before .before .either .result .at) bar, text-fits t (c .before .before .before .before .before .before .before .before .before .before .before .before .before .before .before .before .before))
 
 pattern-loop-less : (t : ℕ) → pattern-lts.Need-loop-less (pattern-env t) (pattern-at t) pattern.Post pattern-Inv-loop pattern-μ-loop
 pattern-loop-less t c =
-    let more = pattern-goes _ _ _ _ _ _ _ _ _ (c .before .before .before .before .before .before .before .before .before .before .before .before .before .loop .inv .2) (c .before .before .before .before .before .before .before .before .before .before .branch .ensures) (c .before .before .before .either .ensures) (sym (c .before .before .is-bar .ensures) ∙ not-false (c .before .before .is-bar .result) (c .before .if1 .left)) in
-    omega (arith, more .1, more .2)
+    let bar = sym (c .before .before .is-bar .ensures) ∙ not-false (c .before .before .is-bar .result) (c .before .if1 .left) in
+    let more = goes-on branches _ _ _ _ _ _ _ _ _ _ (c .before .before .before .before .before .before .before .before .before .before .before .before .before .loop .inv .2) (c .before .before .before .before .before .before .before .before .before .before .branch .ensures) (c .before .before .before .either .ensures, refl) (c .before .before .before .either .result .at + 1) refl bar in
+    omega (arith, more .1, bar-within (c .before .before .before .before .before .before .before .before .before .before .before .before .before .before .before .before .before .before .args .s .now) (c .before .before .before .either .result .good) (c .before .before .before .either .result .at) bar)
 
 pattern-loop-again : (t : ℕ) → pattern-lts.Need-loop-again (pattern-env t) (pattern-at t) pattern.Post pattern-Inv-loop pattern-μ-loop
 pattern-loop-again t c =
-    let more = pattern-goes _ _ _ _ _ _ _ _ _ (c .before .before .before .before .before .before .before .before .before .before .before .before .before .loop .inv .2) (c .before .before .before .before .before .before .before .before .before .before .branch .ensures) (c .before .before .before .either .ensures) (sym (c .before .before .is-bar .ensures) ∙ not-false (c .before .before .is-bar .result) (c .before .if1 .left)) in
+    let bar = sym (c .before .before .is-bar .ensures) ∙ not-false (c .before .before .is-bar .result) (c .before .if1 .left) in
+    let more = goes-on branches _ _ _ _ _ _ _ _ _ _ (c .before .before .before .before .before .before .before .before .before .before .before .before .before .loop .inv .2) (c .before .before .before .before .before .before .before .before .before .before .branch .ensures) (c .before .before .before .either .ensures, refl) (c .before .before .before .either .result .at + 1) refl bar in
     let b = c .before .before .before .before .before .before .before .before .before .before .branch in
     let sized = c .before .before .before .before .before .before .before .before .before .before .before .before .before .loop .inv .1 in
     (search needs, record { sets-are = b .kept .1 .1 .1 .1 .0 ∙ sized .sets-are; credits-are = b .kept .1 .1 .1 .1 .1 .0 ∙ sized .credits-are }, more .0)
