@@ -15,12 +15,12 @@ set xlabel "letters of the answer"
 set xrange [0:4300]
 set yrange [0:950]
 set xtics 1024
-plot 13 + 0.2*x ls 2 title "13 + 0.2 for each letter", "marking.dat" with linespoints ls 1 title "measured"
+plot 12 + 0.2*x ls 2 title "12 + 0.2 for each letter", "marking.dat" with linespoints ls 1 title "measured"
 
 set title "Vetting: up to the fourth power of the positions"
 set xlabel "positions of the pattern"
 set xrange [0:62]
 set yrange [0:1300]
 set xtics 10
-plot 1105.5*(x/60)**4 ls 2 title "fourth power, through the last point", "vetting.dat" with linespoints ls 1 title "measured"
+plot 1090.0*(x/60)**4 ls 2 title "fourth power, through the last point", "vetting.dat" with linespoints ls 1 title "measured"
 unset multiplot
