@@ -240,8 +240,8 @@ fn last_positions(t: &mut Tally) {
     }
 }
 
-/// Answers up to 255 letters and longer ones, with letters that the pattern has and has not, and with bytes that are no letters.
-fn short_and_long(t: &mut Tally) {
+/// Answers of some 256 letters, with letters that the pattern has and has not, and with bytes that are no letters.
+fn some_256_letters(t: &mut Tally) {
     let sixty: Vec<u8> = (b'A'..=b'Z').chain(b'a'..=b'z').chain(b'0'..=b'7').collect();
     let alternatives = [b"(", &sixty.iter().map(|c| [*c]).collect::<Vec<_>>().join(&b"=2|"[..])[..], b")*"].concat();
     let joined = [b"(", &sixty[..], b")*"].concat();
@@ -374,7 +374,7 @@ fn main() {
     specimens(&mut t);
     edges(&mut t);
     last_positions(&mut t);
-    short_and_long(&mut t);
+    some_256_letters(&mut t);
     one_after_another(&mut t);
     scratch(&mut t);
     threads(&mut t);
