@@ -7,24 +7,24 @@ use mathlib.Core.List.{List, [], _∷_}
 use Prim.Native.Nat.{ℕ, zero, suc, _+_, _-_, _≤_, _<_}
 use native.Mathlib.Omega.{arith}
 use lib.Dec.{eqb, leb}
-use lib.ListN.{length, getD, drop, length-drop, drop-of-length-le}
+use lib.ListN.{length, getD, drop, drop-of-length-le}
 use lib.Seq.{drop-drop}
 use borrow.Author.Tests.{eq-eqb, ne-eqb, leb-true, le-ltb, not-true, not-false}
 use Rattle.basics.specs.Choice.{if_then_else_}
 use Rattle.basics.specs.Bytes.{isIn}
 use Rattle.basics.proofs.Tests.{by-test, and-parts}
-use Rattle.letters.specs.Alphabet.{isLetter}
+use Rattle.alphabet.specs.Alphabet.{isLetter}
 use Rattle.letters.specs.LetterSet.{hasLetter, Some}
 use Rattle.letters.specs.declared.LetterSet.{LetterSet}
 use Rattle.letters.proofs.Sets.{none-same}
-use Rattle.pattern.specs.Parts.{Item, item, atom, inItems, holds, letter}
-use Rattle.pattern.specs.Grammar.{Read, read, broken, peek, special, Items, itemsFrom, withCredit, readClass, readLetter}
-use Rattle.atoms.specs.declared.Named.{Named}
+use Rattle.pattern.specs.Parts.{Item, item, atom, holds, letter}
+use Rattle.pattern.specs.Grammar.{Read, read, broken, peek, special, withCredit, readClass, readLetter}
+use Rattle.classes.specs.declared.Named.{Named}
 use Rattle.atoms.specs.declared.Lettered.{Lettered}
 use Rattle.atoms.specs.Atoms.{ReadsAtom}
-use Rattle.atoms.specs.Classes.{Decides, ReadsItems, UpToCredit, IsNamed, ReadsNamed}
-use Rattle.atoms.proofs.Places.{byte-within, drop-first, second-byte}
-use Rattle.atoms.proofs.Members.{decides-yes, decides-no}
+use Rattle.classes.specs.Classes.{Decides, UpToCredit, IsNamed, ReadsNamed}
+use Rattle.places.proofs.Places.{byte-within, drop-first, second-byte}
+use Rattle.classes.proofs.Members.{decides-yes, decides-no}
 
 -- ---- the credit
 
@@ -114,57 +114,6 @@ pub all-named : (at : ℕ) (none all : LetterSet) → ((c : ℕ) → hasLetter n
     → UpToCredit s from at R true [] → ReadsNamed s from R record { good = true; at = at; set = all; reversed = false }
 all-named at none all h k s from R w =
     decides-yes record { others = true; items = []; read = w; has = λ c. k c ∙ ap (λ (t : Bool). isLetter c && not t) (h c); turned = refl }
-
--- ---- a class
-
-abbrev classed : Bool → Items → Read
-classed o X = if X .good then withCredit o (X .items) (X .rest) else broken
-
-module _ (s : List ℕ) (t : ℕ) (X : Items) (n : Named) (w : ReadsItems s t X n) (o : Bool) (set : LetterSet) where
-  class-named : ((c : ℕ) → hasLetter (n .set) c ≡ (isLetter c && inItems c (X .items)) → hasLetter set c ≡ holds (atom o (X .items) 0) c) → (from : ℕ) → from < t
-      → ReadsNamed s from (classed o X) record { good = n .good; at = n .at; set = set; reversed = n .reversed }
-  class-named has from l = record {
-    yes = λ g.
-        let v = w .yes g in
-        let p = v .place in
-        record {
-          others = o;
-          items = X .items;
-          read = record {
-            same = (λ i. if v .good i then withCredit o (X .items) (v .rest i) else broken);
-            place = record { on = omega arith; within = p .within };
-          };
-          has = λ c. has c (v .has c);
-          turned = v .turned;
-        };
-    no = λ g. ap (λ (b : Bool). if b then withCredit o (X .items) (X .rest) else broken) (w .no g);
-  }
-
--- the other letters of the items
-other-letters : (a b : Bool) → (a && not (a && b)) ≡ (a && not b)
-other-letters true b = refl
-other-letters false b = refl
-
-module _ (s : List ℕ) (at : ℕ) (n : Named) (from : ℕ) (l : from < at) where
-  pub class-plain : (peek (drop at s) ≡ 94 → ⊥) → ((f : ℕ) → length s - at < f → ReadsItems s at (itemsFrom f [] (drop at s)) n) → ReadsNamed s from (readClass (drop at s)) n
-  class-plain d w =
-      let k = length-drop at s in
-      let X = itemsFrom (suc (length (drop at s))) [] (drop at s) in
-      subst (λ (R : Read). ReadsNamed s from R n)
-      (sym (ap (λ (o : Bool). classed o (itemsFrom (suc (length (drop at s))) [] (if o then drop 1 (drop at s) else drop at s))) (ne-eqb (peek (drop at s)) 94 d)))
-      (class-named s at X n (w (suc (length (drop at s))) (omega arith)) false (n .set) (λ c h. h) from l)
-
-  pub class-others : (set : LetterSet) → peek (drop at s) ≡ 94 → ((f : ℕ) → length s - (at + 1) < f → ReadsItems s (at + 1) (itemsFrom f [] (drop (at + 1) s)) n)
-      → ((c : ℕ) → hasLetter set c ≡ (isLetter c && not (hasLetter (n .set) c))) → ReadsNamed s from (readClass (drop at s)) record { good = n .good; at = n .at; set = set; reversed = n .reversed }
-  class-others set e w h =
-      let k = length-drop at s in
-      let X = itemsFrom (suc (length (drop at s))) [] (drop (at + 1) s) in
-      subst (λ (R : Read). ReadsNamed s from R record { good = n .good; at = n .at; set = set; reversed = n .reversed })
-      (sym
-      (ap (λ (o : Bool). classed o (itemsFrom (suc (length (drop at s))) [] (if o then drop 1 (drop at s) else drop at s))) (eq-eqb (peek (drop at s)) 94 e)
-      ∙ ap (λ (u : List ℕ). classed true (itemsFrom (suc (length (drop at s))) [] u)) (drop-drop 1 at s)))
-      (class-named s (at + 1) X n (w (suc (length (drop at s))) (omega arith)) true set
-      (λ c p. h c ∙ ap (λ (t : Bool). isLetter c && not t) p ∙ other-letters (isLetter c) (inItems c (X .items))) from (omega arith))
 
 -- ---- by the first byte
 

@@ -1,3 +1,1 @@
-pub mod Places
-pub mod Members
 pub mod Lettering

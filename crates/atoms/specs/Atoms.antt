@@ -4,7 +4,7 @@ use mathlib.Core.Bool.{true, not}
 use mathlib.Core.List.{List}
 use Prim.Native.Nat.{ℕ, _<_, _≤_}
 use lib.ListN.{length, drop}
-use Rattle.letters.specs.Alphabet.{someLetter}
+use Rattle.alphabet.specs.Alphabet.{someLetter}
 use Rattle.letters.specs.LetterSet.{hasLetter}
 use Rattle.pattern.specs.Parts.{Atom, holds, Part, letter}
 use Rattle.pattern.specs.Grammar.{Read}

@@ -1,3 +1,2 @@
--- What the functions promise that read a lettered atom.
-pub mod Classes
+-- What reading a lettered atom promises.
 pub mod Atoms

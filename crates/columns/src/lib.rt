@@ -5,7 +5,7 @@ ghost use Prim.Native.Nat.{ℕ, _<_, _≤_, _+_, _^_};
 ghost use lib.ListN.{length, getD};
 ghost use Rattle.bits.specs.Bits.{hasBit};
 ghost use Rattle.letters.specs.LetterSet.{hasLetter};
-ghost use Rattle.letters.specs.Table.{setAt};
+ghost use Rattle.letters.specs.LetterSet.{setAt};
 ghost use Rattle.columns.specs.Tables.{Columns, Entered};
 
 // For each position the states that it may follow, from the positions that may follow each state.

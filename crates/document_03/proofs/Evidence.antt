@@ -11,7 +11,7 @@ use lib.ListN.{length, length-map, length-append}
 use borrow.Author.Tests.{eqb-true, eq-eqb}
 use Rattle.basics.specs.Lists.{endOf}
 use Rattle.basics.proofs.Tests.{and-parts, and-of}
-use Rattle.letters.specs.Alphabet.{allLetters}
+use Rattle.alphabet.specs.Alphabet.{allLetters}
 use Rattle.graph.specs.Readings.{isReading}
 use Rattle.graph.proofs.Walks.{reads-walk, walk-length}
 use Rattle.pattern.specs.Parts.{Part}

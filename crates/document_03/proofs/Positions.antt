@@ -6,7 +6,7 @@ use mathlib.Core.List.{List, [], _∷_, _++_}
 use Prim.Native.Nat.{ℕ, zero, suc}
 use lib.Dec.{eqb, ltb, leb, eqb·suc-suc}
 use lib.ListN.{length, getD}
-use Rattle.letters.specs.Alphabet.{someFrom}
+use Rattle.alphabet.specs.Alphabet.{someFrom}
 use Rattle.pattern.specs.Parts.{Atom, holds, Repeat, optional, star, plus, skips, loops, Part}
 use Rattle.pattern.specs.Grammar.{noAtom}
 use Rattle.pattern.specs.Positions.{atoms, positions, canBeEmpty, isFirst, isLast, follows}

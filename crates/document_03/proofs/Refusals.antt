@@ -6,7 +6,7 @@ use Prim.Native.Nat.{ℕ}
 use lib.Dec.{ltb}
 use lib.ListN.{length}
 use Rattle.basics.specs.Choice.{if_then_else_}
-use Rattle.letters.specs.Alphabet.{allLetters}
+use Rattle.alphabet.specs.Alphabet.{allLetters}
 use Rattle.pattern.specs.Grammar.{isPattern, patternPart}
 use Rattle.pattern.specs.Positions.{atoms, positions}
 use Rattle.pattern.specs.Refusals.{patternRefusal, anyReversed, anyEmpty}

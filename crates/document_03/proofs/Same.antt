@@ -6,7 +6,7 @@ use mathlib.Core.Bool.{true}
 use mathlib.Core.List.{List, map}
 use Prim.Native.Nat.{ℕ, suc, _+_, _*_, _≤_, _<_}
 use lib.ListN.{length}
-use Rattle.letters.specs.Alphabet.{allLetters}
+use Rattle.alphabet.specs.Alphabet.{allLetters}
 use Rattle.graph.specs.Readings.{isReading, creditOf, readings, mark}
 use Rattle.pattern.specs.Grammar.{readPattern, patternPart}
 use Rattle.pattern.specs.Positions.{positions, canBeEmpty, isFirst, isLast, follows, patternGraph}

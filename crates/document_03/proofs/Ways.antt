@@ -11,7 +11,7 @@ use lib.ListN.{length}
 use borrow.Author.Tests.{eqb-true, ltb-true, lt-ltb}
 use Rattle.basics.specs.Lists.{endOf, Chain}
 use Rattle.basics.proofs.Tests.{and-parts, and-of, or-cases, or-left, or-right, by-equal}
-use Rattle.letters.specs.Alphabet.{someFrom, lowestFrom}
+use Rattle.alphabet.specs.Alphabet.{someFrom, lowestFrom}
 use Rattle.graph.specs.Graph.{isPosition}
 use Rattle.pattern.specs.Parts.{Part}
 use Rattle.pattern.specs.Positions.{graphOf}

@@ -2,7 +2,7 @@
 use lib.ListN.{getD}
 use Rattle.bits.specs.Bits.{hasBit}
 use Rattle.letters.specs.LetterSet.{hasLetter}
-use Rattle.letters.specs.Table.{setAt}
+use Rattle.letters.specs.LetterSet.{setAt}
 use Rattle.graph.specs.Graph.{Graph}
 use Rattle.graph.specs.declared.Built.{Built}
 

@@ -4,7 +4,7 @@ use mathlib.Core.Path.{_≡_}
 use mathlib.Core.Bool.{Bool, true, false, _&&_}
 use Prim.Native.Nat.{ℕ, _≤_}
 use lib.Dec.{leb}
-use Rattle.letters.specs.Alphabet.{isLetter}
+use Rattle.alphabet.specs.Alphabet.{isLetter}
 
 pub record Graph : Type 0 where
   -- how many positions there are

@@ -6,7 +6,7 @@ use mathlib.Core.List.{List, [], _∷_}
 use Prim.Native.Nat.{ℕ, _≤_}
 use lib.ListN.{length}
 use Rattle.basics.specs.Lists.{endOf}
-use Rattle.letters.specs.Alphabet.{isLetter, someLetter}
+use Rattle.alphabet.specs.Alphabet.{isLetter, someLetter}
 use Rattle.graph.specs.Graph.{Graph, isPosition}
 
 module _ (g : Graph) where

@@ -8,14 +8,16 @@ use native.Mathlib.Omega.{arith}
 use borrow.Author.Tests.{lt-ltb, le-ltb, le-leb, lt-leb, ne-eqb}
 use lib.Dec.{eqb, leb}
 use lib.Count.{trailingZeros}
+use lib.ListN.{replicate}
 use Rattle.basics.specs.Folds.{Less}
 use Rattle.basics.proofs.Tests.{le-or-lt, neither-less, and-parts, and-of, by-test, equal-added}
+use Rattle.basics.proofs.Lists.{alike}
 use Rattle.bits.specs.Bits.{hasBit, Least}
 use Rattle.bits.proofs.Laws.{has-none, has-high, least-trailing}
-use Rattle.letters.specs.Alphabet.{isLetter, someLetter, lowestLetter}
-use Rattle.letters.specs.LetterSet.{hasLetter, Some, LeastLetter}
+use Rattle.alphabet.specs.Alphabet.{isLetter, someLetter, lowestLetter}
+use Rattle.letters.specs.LetterSet.{hasLetter, Some, LeastLetter, setAt}
 use Rattle.letters.specs.declared.LetterSet.{LetterSet}
-use Rattle.letters.proofs.Alphabet.{lowest-letter, lowest-none, letter-some}
+use Rattle.alphabet.proofs.Alphabet.{lowest-letter, lowest-none, letter-some}
 
 -- ---- the three places
 
@@ -159,3 +161,8 @@ none-same s f same false empty some =
     let e = some refl in
     let p = and-parts (isLetter (e .code)) (f (e .code)) (sym (same (e .code)) ∙ e .here) in
     ap not (sym (letter-some f (e .code) (p .0) (p .1)))
+
+-- an array of empty sets has no letter
+pub all-empty : (n : ℕ) (none : LetterSet) → ((c : ℕ) → hasLetter none c ≡ false) → (i c : ℕ) → hasLetter (setAt (replicate n none) i) c ≡ false
+all-empty n none empty i c =
+    alike (λ (s : LetterSet). hasLetter s c ≡ false) n none record { low = 0; high = 0 } (empty c) (zero-none record { low = 0; high = 0 } refl refl c) i

@@ -1,8 +1,10 @@
 -- A set of letters as the program holds it: what the contracts cite.
 use mathlib.Core.Path.{_≡_}
 use mathlib.Core.Bool.{Bool, true, _&&_}
+use mathlib.Core.List.{List}
 use Prim.Native.Nat.{ℕ, _+_, _-_}
 use lib.Dec.{ltb, leb}
+use lib.ListN.{getD}
 use Rattle.basics.specs.Choice.{if_then_else_}
 use Rattle.basics.specs.Folds.{LeastOf}
 use Rattle.bits.specs.Bits.{hasBit}
@@ -24,3 +26,7 @@ LeastLetter s c = LeastOf (hasLetter s) c
 -- a number that falls with each letter taken out
 abbrev pub weight : LetterSet → ℕ
 weight s = s .low + s .high
+
+-- the set of entry i of an array of sets, empty past the last
+abbrev pub setAt : List LetterSet → ℕ → LetterSet
+setAt sets i = getD sets i record { low = 0; high = 0 }

@@ -1,4 +1,2 @@
--- The letters, and sets of them.
-pub mod Alphabet
+-- Sets of letters.
 pub mod LetterSet
-pub mod Table

@@ -9,8 +9,8 @@ use Rattle.pattern.specs.Positions.{positions, patternGraph}
 use Rattle.pattern.specs.Refusals.{patternRefusal}
 use Rattle.verdict.specs.Verdict.{verdict}
 use Rattle.vetting.specs.declared.Vetted.{Vetted}
-use Rattle.marking.specs.Vetting.{VetSays}
-use Rattle.marking.proofs.Vetting.{by-pattern, refusal-is, answered}
+use Rattle.calls.specs.Vetting.{VetSays}
+use Rattle.calls.proofs.Vetting.{by-pattern, refusal-is, answered}
 use Rattle.fields.specs.Fields.{resultLine}
 use Rattle.fields.proofs.Fields.{line-refused}
 use Rattle.lines.specs.Lines.{lineOf}

@@ -12,7 +12,7 @@ use lib.ListN.{length}
 use borrow.Author.Tests.{eq-eqb, ne-eqb}
 use Rattle.basics.specs.Lists.{Apart, In}
 use Rattle.basics.proofs.Tests.{if-yes, if-no}
-use Rattle.letters.specs.Alphabet.{allLetters}
+use Rattle.alphabet.specs.Alphabet.{allLetters}
 use Rattle.graph.specs.Readings.{isReading, readings, creditOf, mark}
 use Rattle.graph.proofs.Counting.{reading-counts, count-reading}
 use Rattle.pattern.specs.Grammar.{patternPart}
@@ -24,13 +24,15 @@ use Rattle.verdict.specs.Evidence.{times, ShowsSteady, ShowsRunaway}
 use Rattle.verdict.specs.Answers.{Begins, ShowsBy}
 use Rattle.marks.specs.declared.Marked.{Marked}
 use Rattle.vetting.specs.declared.Vetted.{Vetted}
+use Rattle.calls.specs.Marking.{markRefusal, MarkSays}
+use Rattle.calls.specs.Vetting.{vetRefusal, refused, VetSays}
+use Rattle.calls.proofs.Marking as Marking
+use Rattle.calls.proofs.Vetting as Vetting
 use Rattle.marking.specs.Packing.{field, vetUnpacked, markUnpacked}
-use Rattle.marking.specs.Marking.{markRefusal, MarkSays, MarkForC}
-use Rattle.marking.specs.Vetting.{vetRefusal, refused, VetSays, VetForC, VetAlone}
+use Rattle.marking.specs.ForC.{MarkForC, VetForC, VetAlone}
 use Rattle.marking.proofs.Demands as Demands
-use Rattle.marking.proofs.Marking as Marking
 use Rattle.marking.proofs.Packing.{vet-fields, vet-unpacks, mark-fields, mark-unpacks}
-use Rattle.marking.proofs.Vetting as Vetting
+use Rattle.marking.proofs.Stored as Stored
 
 -- ==== What is said of marking the answer s
 
@@ -162,7 +164,7 @@ marking-mark-keeps b s old new n h = mark-answer-keeps b s (markUnpacked n new) 
 
 -- and at a refusal the number behind the pointer is as before.
 pub marking-mark-stores : (b s : List ℕ) (old new n : ℕ) → MarkForC b s old new n → (markUnpacked n new .refusal ≡ 0 → ⊥) → new ≡ old
-marking-mark-stores b s old new n h d = h .stored ∙ Marking.count-kept b s old (λ z. d (mark-unpacks b s old new n h .refusal ∙ z))
+marking-mark-stores b s old new n h d = h .stored ∙ Stored.count-kept b s old (λ z. d (mark-unpacks b s old new n h .refusal ∙ z))
 
 -- ---- vetting
 

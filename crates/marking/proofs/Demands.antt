@@ -8,7 +8,7 @@ use mathlib.Core.List.{List, _++_}
 use Prim.Native.Nat.{ℕ, _+_, _*_, _^_, _≤_}
 use lib.ListN.{length}
 use Rattle.basics.specs.Lists.{Apart, In}
-use Rattle.letters.specs.Alphabet.{allLetters}
+use Rattle.alphabet.specs.Alphabet.{allLetters}
 use Rattle.graph.specs.Readings.{isReading, readings, creditOf, mark}
 use Rattle.graph.proofs.Counting as Counting
 use Rattle.graph.proofs.Marks as Marks

@@ -1,5 +1,4 @@
 pub mod Calls
 pub mod Demands
-pub mod Marking
 pub mod Packing
-pub mod Vetting
+pub mod Stored

@@ -9,7 +9,7 @@ use lib.Dec.{eqb, ltb}
 use lib.ListN.{length}
 use Rattle.basics.specs.Choice.{if_then_else_}
 use Rattle.basics.proofs.Tests.{by-test, if-yes, if-no, if-either}
-use Rattle.letters.specs.Alphabet.{allLetters}
+use Rattle.alphabet.specs.Alphabet.{allLetters}
 use Rattle.graph.specs.Graph.{Graph}
 use Rattle.pattern.specs.Grammar.{isPattern, patternPart}
 use Rattle.pattern.specs.Refusals.{anyReversed, anyEmpty, patternRefusal}
@@ -19,10 +19,11 @@ use Rattle.verdict.specs.Answers.{ShowsBy}
 use Rattle.verdict.proofs.Bounds.{verdict-low}
 use Rattle.marks.specs.declared.Marked.{Marked}
 use Rattle.vetting.specs.declared.Vetted.{Vetted}
+use Rattle.calls.specs.Marking.{markRefusal, countShown, MarkSays}
+use Rattle.calls.specs.Vetting.{vetRefusal, VetBy, VetSays}
+use Rattle.calls.proofs.Vetting.{accepts}
 use Rattle.marking.specs.Packing.{field, vetPacked, vetUnpacked, markPacked, markUnpacked}
-use Rattle.marking.specs.Marking.{markRefusal, countShown, MarkSays, countAfter, MarkForC}
-use Rattle.marking.specs.Vetting.{vetRefusal, VetBy, VetSays, VetForC}
-use Rattle.marking.proofs.Vetting.{accepts}
+use Rattle.marking.specs.ForC.{countAfter, MarkForC, VetForC}
 
 -- ---- refusals
 

@@ -1,4 +1,3 @@
--- What the calls promise.
+-- What the calls for C promise.
 pub mod Packing
-pub mod Marking
-pub mod Vetting
+pub mod ForC

@@ -10,7 +10,7 @@ use borrow.Author.Tests.{ltb-true, lt-ltb}
 use Rattle.basics.proofs.Tests.{and-parts}
 use Rattle.bits.specs.Bits.{hasBit}
 use Rattle.letters.specs.LetterSet.{hasLetter}
-use Rattle.letters.specs.Table.{setAt}
+use Rattle.letters.specs.LetterSet.{setAt}
 use Rattle.graph.specs.Graph.{Bounded}
 use Rattle.graph.specs.Built.{graphOfBuilt}
 use Rattle.graph.specs.declared.Built.{Built}

@@ -12,11 +12,13 @@ use Rattle.basics.specs.Choice.{if_then_else_}
 use Rattle.basics.proofs.Tests.{by-test, if-yes, if-no, and-parts, and-when}
 use Rattle.pattern.specs.Parts.{Part, joined, either}
 use Rattle.pattern.specs.Grammar.{Read, read, broken, goesOn, pieceFrom, branchFrom, patternFrom}
-use Rattle.parts.specs.declared.Parsed.{Parsed}
-use Rattle.parts.specs.Parsing.{Shape, shapeOf, Memory, memory, Has, StandsFor, Stands, Parses, both, barNext, nothingRead, Follows, Either, Joins}
-use Rattle.parts.proofs.Parsing.{stands-not, moves}
-use Rattle.parts.proofs.Joining.{has-nothing, has-either, has-joined}
-use Rattle.parts.proofs.Shapes.{joinedShape, eitherShape, noShape, joined-none, joined-assoc, either-none, either-assoc}
+use Rattle.parsed.specs.declared.Parsed.{Parsed}
+use Rattle.parsed.specs.Parsed.{Shape, shapeOf, Memory, memory, Has, StandsFor, Stands, nothingRead, Follows, Either, Joins}
+use Rattle.parts.specs.Parsing.{Parses, both, barNext}
+use Rattle.parsed.proofs.Standing.{stands-not}
+use Rattle.parts.proofs.Parsing.{moves}
+use Rattle.parsed.proofs.Joining.{has-nothing, has-either, has-joined}
+use Rattle.parsed.proofs.Shapes.{joinedShape, eitherShape, noShape, joined-none, joined-assoc, either-none, either-assoc}
 
 -- the result at another place
 abbrev pub placed : Parsed → ℕ → Parsed

@@ -1,5 +1,2 @@
-pub mod Shapes
-pub mod Storing
-pub mod Joining
-pub mod Parsing
 pub mod Folding
+pub mod Parsing

@@ -1,3 +1,2 @@
--- What parsing a part gives, and what it leaves in the rows and the tables.
-pub mod Tables
+-- What parsing gives.
 pub mod Parsing

@@ -8,7 +8,7 @@ use lib.Dec.{leb}
 use lib.ListN.{List·getD-eq-default}
 use borrow.Author.Tests.{le-leb}
 use Rattle.basics.proofs.Tests.{and-parts, and-of, le-or-lt}
-use Rattle.letters.specs.Alphabet.{isLetter}
+use Rattle.alphabet.specs.Alphabet.{isLetter}
 use Rattle.graph.specs.Graph.{isPosition, Bounded}
 use Rattle.pattern.specs.Parts.{Atom, holds, Part}
 use Rattle.pattern.specs.Grammar.{noAtom}

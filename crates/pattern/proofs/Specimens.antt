@@ -11,7 +11,7 @@ use lib.ListN.{replicate}
 use Rattle.basics.specs.Choice.{if_then_else_}
 use Rattle.basics.specs.Bytes.{codes}
 use Rattle.basics.specs.Folds.{foldIf}
-use Rattle.letters.specs.Alphabet.{someFrom}
+use Rattle.alphabet.specs.Alphabet.{someFrom}
 use Rattle.graph.specs.Readings.{readings, mark}
 use Rattle.pattern.specs.Grammar.{patternPart}
 use Rattle.pattern.specs.Refusals.{patternRefusal}

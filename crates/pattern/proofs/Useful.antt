@@ -13,7 +13,7 @@ use borrow.Author.Tests.{not-false}
 use Rattle.basics.specs.Lists.{endOf}
 use Rattle.basics.proofs.Tests.{and-parts, or-parts, le-or-lt}
 use Rattle.basics.proofs.Lists.{end-append}
-use Rattle.letters.specs.Alphabet.{isLetter, someLetter}
+use Rattle.alphabet.specs.Alphabet.{isLetter, someLetter}
 use Rattle.graph.specs.Graph.{isPosition}
 use Rattle.graph.proofs.Walks.{position-of}
 use Rattle.graph.specs.Trim.{Route, Useful, Trim}

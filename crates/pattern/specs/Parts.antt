@@ -4,7 +4,7 @@ use mathlib.Core.List.{List, [], _∷_}
 use Prim.Native.Nat.{ℕ}
 use lib.Dec.{leb}
 use Rattle.basics.specs.Choice.{if_then_else_}
-use Rattle.letters.specs.Alphabet.{isLetter}
+use Rattle.alphabet.specs.Alphabet.{isLetter}
 
 -- [Classes] an item: the letters from `lo` to `hi`, both ends included
 pub record Item : Type 0 where

@@ -5,7 +5,7 @@ use Prim.Native.Nat.{ℕ}
 use lib.Dec.{eqb, ltb}
 use lib.ListN.{length}
 use Rattle.basics.specs.Choice.{if_then_else_}
-use Rattle.letters.specs.Alphabet.{allLetters, someLetter}
+use Rattle.alphabet.specs.Alphabet.{allLetters, someLetter}
 use Rattle.graph.specs.Graph.{Graph, noGraph}
 use Rattle.pattern.specs.Parts.{Item, Atom, holds}
 use Rattle.pattern.specs.Grammar.{isPattern, patternPart}

@@ -13,10 +13,10 @@ use Rattle.basics.proofs.Tests.{and-of}
 use Rattle.basics.proofs.Lists.{alike}
 use Rattle.bits.specs.Bits.{hasBit}
 use Rattle.bits.proofs.Laws.{has-none}
-use Rattle.letters.specs.LetterSet.{hasLetter}
+use Rattle.letters.specs.LetterSet.{hasLetter, setAt}
 use Rattle.letters.specs.declared.LetterSet.{LetterSet}
-use Rattle.letters.specs.Table.{setIn, setAt}
-use Rattle.letters.proofs.Tables.{all-empty}
+use Rattle.set_table.specs.Table.{setIn}
+use Rattle.letters.proofs.Sets.{all-empty}
 use Rattle.graph.specs.Graph.{noGraph, Bounded}
 use Rattle.graph.specs.Built.{graphOfBuilt}
 use Rattle.graph.specs.declared.Built.{Built}
@@ -26,8 +26,9 @@ use Rattle.pattern.specs.Positions.{atoms, positions, atomAt, isFirst, isLast, 
 use Rattle.pattern.proofs.Own.{first-own, last-own, follow-own}
 use Rattle.pattern.proofs.Bounds.{graph-bounded}
 use Rattle.links.specs.Rows.{kept}
-use Rattle.parts.specs.Tables.{atomOf, Stored}
-use Rattle.parts.specs.Parsing.{shapeOf, Whole}
+use Rattle.parsed.specs.Tables.{atomOf, Stored}
+use Rattle.parsed.specs.Parsed.{shapeOf}
+use Rattle.parts.specs.Parsing.{Whole}
 use Rattle.parts.specs.declared.ParsedRows.{ParsedRows}
 
 pub none-shown : (none : LetterSet) → ((c : ℕ) → hasLetter none c ≡ false)

@@ -11,7 +11,7 @@ use borrow.Author.Tests.{eqb-true, eq-eqb, ne-eqb}
 use Rattle.basics.specs.Choice.{if_then_else_}
 use Rattle.basics.specs.Lists.{Each}
 use Rattle.basics.proofs.Tests.{and-when, same-test, if-yes, if-no}
-use Rattle.letters.specs.Alphabet.{allLetters}
+use Rattle.alphabet.specs.Alphabet.{allLetters}
 use Rattle.graph.specs.Graph.{noGraph, Bounded}
 use Rattle.graph.specs.Built.{graphOfBuilt}
 use Rattle.graph.proofs.Bounds.{none-bounded}
@@ -20,7 +20,7 @@ use Rattle.pattern.specs.Positions.{atoms, positions, patternGraph}
 use Rattle.pattern.specs.Refusals.{anyReversed, anyEmpty, patternRefusal, builtGraph}
 use Rattle.parts.specs.Parsing.{ParsesAll}
 use Rattle.reader.specs.Read.{Reads, Refuses}
-use Rattle.parts.specs.declared.Parsed.{Parsed}
+use Rattle.parsed.specs.declared.Parsed.{Parsed}
 use Rattle.reader.specs.declared.ReadPattern.{ReadPattern}
 
 -- the number of the first test that passes, from k on, or 0

@@ -8,7 +8,8 @@ use Rattle.graph.specs.declared.Built.{Built}
 use Rattle.pattern.specs.Parts.{Part}
 use Rattle.pattern.specs.Positions.{positions, graphOf}
 use Rattle.pattern.specs.Refusals.{patternRefusal, builtGraph}
-use Rattle.parts.specs.Parsing.{shapeOf, Whole}
+use Rattle.parsed.specs.Parsed.{shapeOf}
+use Rattle.parts.specs.Parsing.{Whole}
 use Rattle.parts.specs.declared.ParsedRows.{ParsedRows}
 use Rattle.reader.specs.declared.ReadPattern.{ReadPattern}
 

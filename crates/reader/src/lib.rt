@@ -1,10 +1,9 @@
 // Reading a pattern: its refusal, or the built pattern. `read` takes any bytes.
 use graph::Built;
-use letters::table;
 use parts::ParsedRows;
 ghost use mathlib.Core.Path.{_≡_};
 ghost use lib.ListN.{length};
-ghost use Rattle.letters.specs.Table.{tableSize};
+ghost use Rattle.set_table.specs.Table.{tableSize};
 ghost use Rattle.reader.specs.Read.{Reads, Refuses, Builds};
 
 // A pattern that was read: the number of the first refusal, from 3 to 8, that applies to it, and an empty built pattern; or 0,
@@ -21,10 +20,10 @@ pub fn read(s: &[u8]) -> ReadPattern
     if s.len() > 512 {
         return refused(3);
     }
-    if !letters::all_letters(s) {
+    if !alphabet::all_letters(s) {
         return refused(4);
     }
-    let mut sets = table::empty();
+    let mut sets = set_table::empty();
     let mut credits = [0u8; 61];
     let p = parts::parse(s, &mut sets, &mut credits);
     let part = p.part;
@@ -76,7 +75,7 @@ fn built(p: ParsedRows, sets: &[u64], credits: [u8; 61]) -> Built
     let part = p.part;
     let mut follow = p.rows;
     follow[0] = part.firsts;
-    let letters = table::sets(sets);
+    let letters = set_table::sets(sets);
     Built {
         positions: part.n,
         follow: follow,

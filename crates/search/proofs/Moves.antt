@@ -10,7 +10,7 @@ use borrow.Author.Tests.{eq-eqb, lt-leb, le-leb}
 use lib.Dec.{eqb, leb}
 use lib.ListN.{getD}
 use Rattle.basics.specs.Lists.{Chain}
-use Rattle.letters.specs.Alphabet.{someLetter, lowestLetter}
+use Rattle.alphabet.specs.Alphabet.{someLetter, lowestLetter}
 use Rattle.bits.specs.Bits.{hasBit}
 use Rattle.graph.specs.Graph.{Graph, isPosition}
 use Rattle.graph.proofs.Walks.{position-of}

@@ -3,10 +3,10 @@ use mathlib.Core.Path.{_≡_, refl, ap, _∙_}
 use mathlib.Core.Bool.{Bool, true, false, _&&_, not}
 use Prim.Native.Nat.{ℕ}
 use Rattle.basics.proofs.Tests.{and-parts, and-of, same-test}
-use Rattle.letters.specs.Alphabet.{isLetter, someLetter, lowestLetter}
+use Rattle.alphabet.specs.Alphabet.{isLetter, someLetter, lowestLetter}
 use Rattle.letters.specs.LetterSet.{hasLetter, Some, LeastLetter}
 use Rattle.letters.specs.declared.LetterSet.{LetterSet}
-use Rattle.letters.proofs.Alphabet.{lowest-letter}
+use Rattle.alphabet.proofs.Alphabet.{lowest-letter}
 use Rattle.letters.proofs.Sets.{lowest-same, none-same}
 
 module _ (s t r : LetterSet) (letters : (c : ℕ) → hasLetter s c ≡ true → isLetter c ≡ true) (both : (c : ℕ) → hasLetter r c ≡ (hasLetter s c && hasLetter t c)) where

@@ -5,11 +5,11 @@ use mathlib.Core.List.{List}
 use Prim.Native.Nat.{ℕ, _≤_}
 use lib.ListN.{getD}
 use Rattle.bits.specs.Bits.{hasBit}
-use Rattle.letters.specs.Alphabet.{isLetter}
+use Rattle.alphabet.specs.Alphabet.{isLetter}
 use Rattle.letters.specs.LetterSet.{hasLetter}
 use Rattle.letters.specs.declared.LetterSet.{LetterSet}
 use Rattle.graph.specs.Graph.{Graph, isPosition}
-use Rattle.letters.specs.Table.{setAt}
+use Rattle.letters.specs.LetterSet.{setAt}
 use Rattle.verdict.specs.Pairs.{shares}
 use Rattle.nodes.specs.Nodes.{goes}
 

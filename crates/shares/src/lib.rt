@@ -6,7 +6,7 @@ ghost use mathlib.Core.Bool.{true, _&&_};
 ghost use Prim.Native.Nat.{ℕ, _≤_};
 ghost use lib.ListN.{length, getD};
 ghost use Rattle.bits.specs.Bits.{hasBit};
-ghost use Rattle.letters.specs.Alphabet.{someLetter, isLetter};
+ghost use Rattle.alphabet.specs.Alphabet.{someLetter, isLetter};
 ghost use Rattle.letters.specs.LetterSet.{hasLetter};
 ghost use Rattle.shares.specs.Tables.{held, Lettered};
 

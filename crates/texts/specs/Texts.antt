@@ -5,7 +5,7 @@ use mathlib.Core.List.{List, [], _∷_, _++_, map}
 use Prim.Native.Nat.{ℕ, suc, _+_, _≤_, _<_}
 use lib.ListN.{length, take, drop}
 use Rattle.basics.specs.Lists.{Apart, endOf, Chain}
-use Rattle.letters.specs.Alphabet.{someLetter, lowestLetter}
+use Rattle.alphabet.specs.Alphabet.{someLetter, lowestLetter}
 use Rattle.letters.specs.declared.LetterSet.{LetterSet}
 use Rattle.nodes.specs.Nodes.{leftOf, rightOf, Step}
 use Rattle.shares.specs.Tables.{held}

@@ -13,7 +13,7 @@ use Rattle.basics.specs.Choice.{if_then_else_}
 use Rattle.basics.specs.Lists.{Each, Apart}
 use Rattle.basics.proofs.Tests.{by-test, by-equal, if-yes, if-no}
 use Rattle.basics.proofs.Lists.{each-map}
-use Rattle.letters.specs.Alphabet.{allLetters}
+use Rattle.alphabet.specs.Alphabet.{allLetters}
 use Rattle.graph.specs.Graph.{Graph}
 use Rattle.graph.specs.Readings.{isReading, readings}
 use Rattle.graph.proofs.Walks.{Walk, Reads, reads-walk, walk-reads}

@@ -8,8 +8,8 @@ use native.Mathlib.Omega.{arith}
 use lib.Arith.{digits-lt, digits-div, digits-mod}
 use Rattle.basics.specs.Lists.{Chain}
 use Rattle.basics.proofs.Tests.{and-parts, and-of}
-use Rattle.letters.specs.Alphabet.{isLetter, allLetters}
-use Rattle.letters.proofs.Alphabet.{lowest-letter, letter-some}
+use Rattle.alphabet.specs.Alphabet.{isLetter, allLetters}
+use Rattle.alphabet.proofs.Alphabet.{lowest-letter, letter-some}
 use Rattle.graph.specs.Graph.{Graph, isPosition, step}
 use Rattle.graph.proofs.Walks.{Walk, position-of, step-parts, step-of}
 use Rattle.verdict.specs.Pairs.{Pair, pair, bothHold, shares, letterShown}

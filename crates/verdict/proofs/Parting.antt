@@ -12,7 +12,7 @@ use borrow.Author.Tests.{eqb-false, ne-eqb, not-true}
 use Rattle.basics.specs.Lists.{endOf}
 use Rattle.basics.proofs.Tests.{and-parts, and-of, by-test}
 use Rattle.basics.proofs.Lists.{map-end}
-use Rattle.letters.specs.Alphabet.{allLetters}
+use Rattle.alphabet.specs.Alphabet.{allLetters}
 use Rattle.graph.specs.Graph.{Graph}
 use Rattle.graph.proofs.Walks.{Walk, walk-length}
 use Rattle.graph.specs.Trim.{Trim}

@@ -12,7 +12,7 @@ use borrow.Author.Tests.{eqb-true, eq-eqb}
 use Rattle.basics.specs.Lists.{endOf}
 use Rattle.basics.proofs.Tests.{and-parts, and-of, by-test}
 use Rattle.basics.proofs.Folds.{least, list-first, list-none}
-use Rattle.letters.specs.Alphabet.{allLetters}
+use Rattle.alphabet.specs.Alphabet.{allLetters}
 use Rattle.graph.specs.Graph.{Graph, isPosition}
 use Rattle.graph.proofs.Walks.{Walk, position-of}
 use Rattle.graph.specs.Trim.{Trim}

@@ -8,8 +8,8 @@ use native.Mathlib.Omega.{arith}
 use lib.ListN.{length, length-append}
 use Rattle.basics.specs.Lists.{endOf}
 use Rattle.basics.proofs.Tests.{and-parts, and-of}
-use Rattle.letters.specs.Alphabet.{lowestLetter}
-use Rattle.letters.proofs.Alphabet.{lowest-letter, letter-some}
+use Rattle.alphabet.specs.Alphabet.{lowestLetter}
+use Rattle.alphabet.proofs.Alphabet.{lowest-letter, letter-some}
 use Rattle.graph.specs.Graph.{Graph, isPosition}
 use Rattle.graph.specs.Readings.{isReading}
 use Rattle.graph.proofs.Walks.{Walk, Reads, position-of, step-of, walk-length, reads-walk, walk-reads, reads-append, reads-split}

@@ -3,7 +3,7 @@ use mathlib.Core.Bool.{Bool, _&&_, _||_}
 use Prim.Native.Nat.{ℕ, zero, suc}
 use lib.Dec.{eqb}
 use Rattle.basics.specs.Folds.{anyIf}
-use Rattle.letters.specs.Alphabet.{someLetter, lowestLetter}
+use Rattle.alphabet.specs.Alphabet.{someLetter, lowestLetter}
 use Rattle.graph.specs.Graph.{Graph, isPosition}
 
 pub record Pair : Type 0 where

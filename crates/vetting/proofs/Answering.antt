@@ -16,8 +16,8 @@ use Rattle.basics.proofs.Tests.{and-parts, and-of, if-yes, if-no, le-or-lt}
 use Rattle.basics.proofs.Lists.{zeros, pigeon}
 use Rattle.bits.specs.Bits.{hasBit}
 use Rattle.bits.proofs.Laws.{has-none}
-use Rattle.letters.specs.Alphabet.{someLetter, lowestLetter}
-use Rattle.letters.proofs.Alphabet.{lowest-letter, letter-some}
+use Rattle.alphabet.specs.Alphabet.{someLetter, lowestLetter}
+use Rattle.alphabet.proofs.Alphabet.{lowest-letter, letter-some}
 use Rattle.graph.specs.declared.Built.{Built}
 use Rattle.graph.specs.Graph.{Graph, isPosition}
 use Rattle.graph.specs.Built.{graphOfBuilt}

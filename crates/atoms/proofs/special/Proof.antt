@@ -7,7 +7,7 @@ use Prim.Native.Nat.{ℕ, _+_, _≤_, _<_}
 use native.Mathlib.Omega.{arith}
 use Rattle.basics.specs.Bytes.{isIn}
 use Rattle.pattern.specs.Grammar.{special}
-use Rattle.atoms.proofs.Members.{allSame, in-range}
+use Rattle.classes.proofs.Members.{allSame, in-range}
 use Rattle.atoms.proofs.special.Statement.{statement}
 use Rattle.atoms.proofs.special.Tie as tie
 

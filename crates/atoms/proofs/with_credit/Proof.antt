@@ -5,7 +5,7 @@ use native.Mathlib.Omega.{arith}
 use borrow.Author.Needs.{needs}
 use borrow.Author.Tests.{not-true, not-false}
 use Rattle.pattern.specs.Grammar.{peek}
-use Rattle.atoms.proofs.Places.{byte-within}
+use Rattle.places.proofs.Places.{byte-within}
 use Rattle.atoms.proofs.Lettering.{digit-range, credit-none, credit-bad, credit-good}
 use Rattle.atoms.proofs.with_credit.Statement.{statement}
 use Rattle.atoms.proofs.with_credit.Tie as tie

@@ -4,7 +4,7 @@ use Prim.Native.Nat.{ℕ, _+_, _-_, _≤_}
 use native.Mathlib.Omega.{arith}
 use lib.ListN.{length}
 use Rattle.letters.specs.LetterSet.{hasLetter}
-use Rattle.letters.specs.Table.{setAt}
+use Rattle.letters.specs.LetterSet.{setAt}
 use Rattle.columns.specs.Tables.{Columns}
 use Rattle.columns.proofs.Columns.{columns-start, columns-on}
 use Rattle.columns.proofs.holders_of.Statement.{statement}

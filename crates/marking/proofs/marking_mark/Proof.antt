@@ -2,7 +2,7 @@
 use mathlib.Core.Path.{refl}
 use mathlib.Core.Logic.{inl, inr, ⊎-elim}
 use borrow.Author.Needs.{needs}
-use Rattle.marking.proofs.Marking.{count-after}
+use Rattle.marking.proofs.Stored.{count-after}
 use Rattle.marking.proofs.marking_mark.Statement.{statement}
 use Rattle.marking.proofs.marking_mark.Tie as tie
 

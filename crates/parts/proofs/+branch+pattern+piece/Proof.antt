@@ -10,10 +10,11 @@ use native.Mathlib.Omega.{arith}
 use lib.ListN.{length}
 use borrow.Author.Needs.{needs}
 use borrow.Author.Tests.{not-true, not-false}
-use Rattle.atoms.proofs.Places.{next-within}
+use Rattle.places.proofs.Places.{next-within}
 use Rattle.pattern.specs.Grammar.{pieceFrom}
-use Rattle.parts.specs.Tables.{Sized}
-use Rattle.parts.specs.Parsing.{Memory, memory, Parses}
+use Rattle.parsed.specs.Tables.{Sized}
+use Rattle.parsed.specs.Parsed.{Memory, memory}
+use Rattle.parts.specs.Parsing.{Parses}
 use Rattle.parts.proofs.Parsing.{parses-as, piece-letter, piece-open, bar-within}
 use Rattle.parts.proofs.Folding.{pieces, branches, Sofar, begins, ends, goes-on}
 use borrow.Fn.Kinds.{In}
@@ -27,15 +28,15 @@ use Rattle.parts.proofs.+branch+pattern+piece.Lts-pattern as pattern-lt
 use Rattle.parts.proofs.piece.Reads as piece
 use Rattle.parts.proofs.piece.Kinds as piece-kinds
 use Rattle.parts.proofs.+branch+pattern+piece.Lts-piece as piece-lts
-use Rattle.atoms.proofs.byte_at.Reads as byte-at-reads
-use Rattle.parts.proofs.closed.Reads as closed-reads
-use Rattle.parts.proofs.either.Reads as either-reads
+use Rattle.places.proofs.byte_at.Reads as byte-at-reads
+use Rattle.parsed.proofs.closed.Reads as closed-reads
+use Rattle.parsed.proofs.either.Reads as either-reads
 use Rattle.parts.proofs.goes_on.Reads as goes-on-reads
 use Rattle.parts.proofs.is_bar.Reads as is-bar-reads
-use Rattle.parts.proofs.join.Reads as join-reads
-use Rattle.parts.proofs.lettered.Reads as lettered-reads
-use Rattle.parts.proofs.nothing.Reads as nothing-reads
-use Rattle.parts.proofs.repeat.Reads as repeat-reads
+use Rattle.parsed.proofs.join.Reads as join-reads
+use Rattle.parsed.proofs.lettered.Reads as lettered-reads
+use Rattle.parsed.proofs.nothing.Reads as nothing-reads
+use Rattle.parsed.proofs.repeat.Reads as repeat-reads
 use Rattle.parts.proofs.+branch+pattern+piece.{statement}
 use Rattle.parts.proofs.+branch+pattern+piece.Tie.{close}
 

@@ -4,7 +4,7 @@ use mathlib.Core.Bool.{Bool, not, _&&_, _||_}
 use Prim.Native.Nat.{ℕ}
 use lib.Dec.{eqb}
 use borrow.Author.Needs.{needs}
-use Rattle.atoms.proofs.Places.{none-left}
+use Rattle.places.proofs.Places.{none-left}
 use Rattle.parts.proofs.goes_on.Statement.{statement}
 use Rattle.parts.proofs.goes_on.Tie as tie
 

@@ -3,7 +3,7 @@ use Prim.Native.Nat.{suc, _*_}
 use native.Mathlib.Omega.{arith}
 use lib.ListN.{length}
 use borrow.Author.Needs.{needs}
-use Rattle.parts.proofs.Joining.{has-whole}
+use Rattle.parts.proofs.Parsing.{has-whole}
 use Rattle.parts.proofs.parse.Statement.{statement}
 use Rattle.parts.proofs.parse.Tie as tie
 

@@ -12,8 +12,9 @@ use borrow.Author.Tests.{lt-ltb, le-ltb, not-false}
 use Rattle.basics.proofs.Tests.{and-parts}
 use Rattle.pattern.specs.Grammar.{readPattern, isPattern, patternPart}
 use Rattle.pattern.specs.Positions.{positions}
-use Rattle.parts.specs.Parsing.{shapeOf, Whole}
-use Rattle.parts.proofs.Storing.{none-stored}
+use Rattle.parsed.specs.Parsed.{shapeOf}
+use Rattle.parts.specs.Parsing.{Whole}
+use Rattle.parsed.proofs.Storing.{none-stored}
 use Rattle.reader.proofs.Building.{stored-bounded}
 use Rattle.reader.proofs.Refusals.{tests, Passes, fails-more, refuses, accepts, whole-pattern}
 use Rattle.reader.proofs.read.Statement.{statement}

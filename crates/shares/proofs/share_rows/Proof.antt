@@ -11,7 +11,7 @@ use lib.Seq.{getD-set-same, getD-set-other}
 use Rattle.basics.proofs.Tests.{by-equal, one-further}
 use Rattle.bits.specs.Bits.{hasBit}
 use Rattle.bits.proofs.Laws.{has-none}
-use Rattle.letters.specs.Alphabet.{someLetter}
+use Rattle.alphabet.specs.Alphabet.{someLetter}
 use Rattle.shares.specs.Tables.{held}
 use Rattle.shares.proofs.share_rows.Statement.{statement}
 use Rattle.shares.proofs.share_rows.Tie as tie

@@ -1,7 +1,7 @@
 -- The set of both holds just what the two share, so its lowest letter is theirs. Assumes nothing.
 use mathlib.Core.Path.{ap₂, _∙_}
-use Rattle.letters.specs.Alphabet.{someLetter, lowestLetter}
-use Rattle.letters.specs.Table.{setAt}
+use Rattle.alphabet.specs.Alphabet.{someLetter, lowestLetter}
+use Rattle.letters.specs.LetterSet.{setAt}
 use Rattle.shares.specs.Tables.{held}
 use Rattle.texts.specs.Texts.{letterAt}
 use Rattle.shares.proofs.Letters.{some-shared, lowest-shared}

@@ -1,0 +1,2 @@
+-- The letters.
+pub mod Alphabet

@@ -1,0 +1,24 @@
+// The letters. What depends on which codes are letters stands here, and in the words of a set (`letters`).
+ghost use mathlib.Core.Path.{_≡_};
+ghost use Rattle.alphabet.specs.Alphabet.{isLetter, allLetters};
+
+// Is the code a letter.
+pub fn is_letter(code: u8) -> bool
+    ensures { λ r. ⌜ r ≡ isLetter code ⌝ }
+{
+    (32 <= code) & (code <= 126)
+}
+
+// Is every byte a letter: so it is of none.
+pub fn all_letters(s: &[u8]) -> bool
+    ensures { λ r. ⌜ r ≡ allLetters (now (s .entry)) ⌝ }
+{
+    let mut i = 0;
+    while i < s.len() {
+        if !is_letter(s[i]) {
+            return false;
+        }
+        i += 1;
+    }
+    true
+}

@@ -1,0 +1,73 @@
+-- Each refusal by its law, from what reading and the tests say. Where none applies, the graph that was built is the pattern's.
+-- Assumes nothing.
+use mathlib.Core.Path.{sym, _∙_}
+use native.Mathlib.Omega.{arith}
+use borrow.Author.Needs.{needs}
+use borrow.Author.Tests.{not-true, not-false}
+use Rattle.calls.proofs.Marking.{by-pattern, too-long, no-text, accepted, says-refusal, says-mark}
+use Rattle.calls.proofs.mark_answer.Statement.{statement}
+use Rattle.calls.proofs.mark_answer.Tie as tie
+
+read-requires : tie.Need-read-requires
+read-requires c κs = search needs
+
+no-mark-requires : tie.Need-no-mark-requires
+no-mark-requires c κs = search needs
+
+returns : tie.Need-returns
+returns c =
+    let a = c .before .before .before .before .before .before .args in
+    let p = c .before .before .before .read in
+    let f = p .ensures .refusal in
+    says-refusal (a .pattern .now) (a .answer .now) (p .result .refusal) (c .no-mark .result) (c .before .if1 .taken)
+    (by-pattern (a .pattern .now) (a .answer .now) (λ e. c .before .if1 .taken (f ∙ e)) ∙ sym f) (c .no-mark .ensures)
+
+no-mark-requires-2 : tie.Need-no-mark-requires-2
+no-mark-requires-2 c κs = search needs
+
+returns-2 : tie.Need-returns-2
+returns-2 c =
+    let a = c .before .before .before .before .before .before .before .args in
+    let f = sym (c .before .before .before .before .read .ensures .refusal) ∙ c .before .before .if1 .left in
+    says-refusal (a .pattern .now) (a .answer .now) 9 (c .no-mark2 .result) (λ e. omega arith) (too-long (a .pattern .now) (a .answer .now) f (c .before .if2 .taken)) (c .no-mark2 .ensures)
+
+all-letters-requires : tie.Need-all-letters-requires
+all-letters-requires c κs = search needs
+
+no-mark-requires-3 : tie.Need-no-mark-requires-3
+no-mark-requires-3 c κs = search needs
+
+returns-3 : tie.Need-returns-3
+returns-3 c =
+    let a = c .before .before .before .before .before .before .before .before .before .args in
+    let f = sym (c .before .before .before .before .before .before .read .ensures .refusal) ∙ c .before .before .before .before .if1 .left in
+    let l = c .before .before .all-letters in
+    says-refusal (a .pattern .now) (a .answer .now) 10 (c .no-mark3 .result) (λ e. omega arith)
+    (no-text (a .pattern .now) (a .answer .now) f (c .before .before .before .if2 .left) (sym (l .ensures) ∙ not-true (l .result) (c .before .if3 .taken))) (c .no-mark3 .ensures)
+
+mark-requires : tie.Need-mark-requires
+mark-requires c κs = (c .before .before .before .before .before .before .read .ensures .bounded, c .before .before .before .if2 .left)
+
+returns-4 : tie.Need-returns-4
+returns-4 c =
+    let a = c .before .before .before .before .before .before .before .before .before .before .args in
+    let p = c .before .before .before .before .before .before .before .read in
+    let f = sym (p .ensures .refusal) ∙ c .before .before .before .before .before .if1 .left in
+    let l = c .before .before .before .all-letters in
+    says-mark (a .pattern .now) (a .answer .now) _ (c .mark .result) (p .ensures .graph) f
+    (accepted (a .pattern .now) (a .answer .now) f (c .before .before .before .before .if2 .left) (sym (l .ensures) ∙ not-false (l .result) (c .before .before .if3 .left))) (c .mark .ensures)
+
+pub mark-answer-spec : {M : Type 1} → statement M
+mark-answer-spec =
+    tie.close
+    (tie.spec
+    read-requires
+    no-mark-requires
+    returns
+    no-mark-requires-2
+    returns-2
+    all-letters-requires
+    no-mark-requires-3
+    returns-3
+    mark-requires
+    returns-4)

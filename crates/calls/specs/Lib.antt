@@ -1,0 +1,3 @@
+-- What the two calls promise.
+pub mod Marking
+pub mod Vetting

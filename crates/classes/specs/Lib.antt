@@ -1,0 +1,2 @@
+-- What the functions promise that read a class.
+pub mod Classes

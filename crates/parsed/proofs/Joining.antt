@@ -1,0 +1,139 @@
+-- Results that have shapes: a lettered atom, a repeat, a part and one after it, and nothing before the first. Assumes nothing.
+use mathlib.Core.Path.{_≡_, refl, sym, ap, ap₂, _∙_, subst}
+use mathlib.Core.Bool.{Bool, true, false, _&&_, _||_, not, and-assoc, or-false, or-assoc}
+use mathlib.Core.List.{List, [], _∷_, _++_, append-nil, append-assoc}
+use Prim.Native.Nat.{ℕ, _+_}
+use native.Mathlib.Nat.{add-zero}
+use native.Mathlib.Numerals.{add-one}
+use native.Mathlib.Omega.{arith}
+use lib.Dec.{eqb}
+use lib.ListN.{length, getD, length-append}
+use Rattle.bits.specs.Bits.{hasBit}
+use Rattle.alphabet.specs.Alphabet.{someLetter}
+use Rattle.pattern.specs.Parts.{Atom, holds, Repeat, skips, loops, Part, letter, again}
+use Rattle.pattern.specs.Positions.{isFirst, isLast, follows}
+use Rattle.pattern.specs.Refusals.{someReversed, anyReversed, anyEmpty}
+use Rattle.parsed.specs.declared.Parsed.{Parsed}
+use Rattle.links.specs.Rows.{kept, Marks, Adds, Linked}
+use Rattle.parsed.specs.Tables.{Stored}
+use Rattle.parsed.specs.Parsed.{Shape, shapeOf, Memory, memory, Has, nothingRead, Either, Joins}
+use Rattle.parsed.proofs.Shapes.{joinedShape, eitherShape, noShape}
+use Rattle.links.proofs.Linking.{marks-if, marks-none, adds-none, adds-both, adds-linked}
+
+-- ---- nothing, and one atom
+
+pub has-nothing : (at n : ℕ) (m : Memory) (empty : Bool) → Has n m m (noShape empty) (nothingRead at n empty)
+has-nothing at n m empty = record {
+  count = sym (add-zero n);
+  empty = refl;
+  firsts = marks-none;
+  lasts = marks-none;
+  reversed = refl;
+  hollow = refl;
+  adds = adds-none (m .rows);
+  stores = λ al l st. subst (λ (x : List Atom). Stored x (m .sets) (m .credits)) (sym (append-nil al)) st;
+}
+
+pub has-letter : (n : ℕ) (rows sets credits sets′ credits′ : List ℕ) (x : Atom) (at own : ℕ) (reversed hollow : Bool) → Marks own (λ b. eqb b (n + 1))
+    → reversed ≡ someReversed (x .items) → hollow ≡ not (someLetter (holds x)) → ((al : List Atom) → length al ≡ n → Stored al sets credits → Stored (al ++ (x ∷ [])) sets′ credits′)
+    → Has n (memory rows sets credits) (memory rows sets′ credits′) (shapeOf (letter x)) record { good = true; at = at; n = n + 1; empty = false; firsts = own; lasts = own; reversed = reversed; hollow = hollow }
+has-letter n rows sets credits sets′ credits′ x at own reversed hollow m turned empty stored = record {
+  count = refl;
+  empty = refl;
+  firsts = mine;
+  lasts = mine;
+  reversed = turned ∙ sym (or-false (someReversed (x .items)));
+  hollow = empty ∙ sym (or-false (not (someLetter (holds x))));
+  adds = adds-none rows;
+  stores = stored;
+}
+  where
+    mine : Marks own (isFirst n (letter x))
+    mine b = m b ∙ ap (λ (i : ℕ). kept b && eqb b i) (add-one n)
+
+-- ---- a repeat
+
+module _ (n : ℕ) (m : Memory) (rows sets credits : List ℕ) (p : Part) (a : Parsed) (ha : Has n m (memory rows sets credits) (shapeOf p) a) where
+  -- the result at another place
+  pub has-at : (at : ℕ) → Has n m (memory rows sets credits) (shapeOf p) record { good = a .good; at = at; n = a .n; empty = a .empty; firsts = a .firsts; lasts = a .lasts; reversed = a .reversed; hollow = a .hollow }
+  has-at at = record { count = ha .count; empty = ha .empty; firsts = ha .firsts; lasts = ha .lasts; reversed = ha .reversed; hollow = ha .hollow; adds = ha .adds; stores = ha .stores }
+
+  pub has-again : (k : Repeat) (at : ℕ) (skip loop : Bool) → skips k ≡ skip → loops k ≡ loop → (back : ℕ) (linked : List ℕ)
+      → ((b : ℕ) → hasBit back b ≡ (hasBit 0 b || (loop && hasBit (a .lasts) b))) → Linked rows back (a .firsts) linked
+      → Has n m (memory linked sets credits) (shapeOf (again k p)) record { good = a .good; at = at; n = a .n; empty = skip || a .empty; firsts = a .firsts; lasts = a .lasts; reversed = a .reversed; hollow = a .hollow }
+  has-again k at skip loop e f back linked j l = record {
+    count = ha .count;
+    empty = ap₂ _||_ (sym e) (ha .empty);
+    firsts = ha .firsts;
+    lasts = ha .lasts;
+    reversed = ha .reversed;
+    hollow = ha .hollow;
+    adds = adds-both (m .rows) rows linked (λ x y. follows n p x y) (λ x y. loops k && (isLast n p x && isFirst n p y)) (ha .adds) round;
+    stores = ha .stores;
+  }
+    where
+      back-marks : Marks back (λ x. loop && isLast n p x)
+      back-marks = marks-if back 0 (a .lasts) (λ x. false) (λ x. isLast n p x) loop j marks-none (ha .lasts)
+
+      round : Adds rows (λ x y. loops k && (isLast n p x && isFirst n p y)) linked
+      round x y =
+          adds-linked rows linked back (a .firsts) (λ x. loop && isLast n p x) (λ y. isFirst n p y) l back-marks (ha .firsts) x y
+          ∙ ap (λ (u : Bool). hasBit (getD rows x 0) y || ((kept x && kept y) && u))
+          (and-assoc loop (isLast n p x) (isFirst n p y) ∙ ap (λ (u : Bool). u && (isLast n p x && isFirst n p y)) (sym f))
+
+-- ---- a part and one after it
+
+-- a test that one of some atoms passes
+any-both : (any : List Atom → Bool) (one : Atom → Bool) → any [] ≡ false → ((a : Atom) (al : List Atom) → any (a ∷ al) ≡ (one a || any al)) → (al bl : List Atom) → any (al ++ bl) ≡ (any al || any bl)
+any-both any one e f [] bl = sym (ap (λ (b : Bool). b || any bl) e)
+any-both any one e f (a ∷ al) bl =
+    f a (al ++ bl) ∙ ap (λ (b : Bool). one a || b) (any-both any one e f al bl) ∙ sym (ap (λ (b : Bool). b || any bl) (f a al) ∙ or-assoc (one a) (any al) (any bl))
+
+module _ (n : ℕ) (m m₁ m₂ : Memory) (p q : Shape) (a b : Parsed) (ha : Has n m m₁ p a) (hb : Has (a .n) m₁ m₂ q b) where
+  after : Has (n + length (p .atoms)) m₁ m₂ q b
+  after = subst (λ (k : ℕ). Has k m₁ m₂ q b) (ha .count) hb
+
+  counted : b .n ≡ n + length (p .atoms ++ q .atoms)
+  counted = omega (arith, ha .count, hb .count, length-append (p .atoms) (q .atoms))
+
+  turned : (a .reversed || b .reversed) ≡ anyReversed (p .atoms ++ q .atoms)
+  turned = ap₂ _||_ (ha .reversed) (hb .reversed) ∙ sym (any-both anyReversed (λ x. someReversed (x .items)) refl (λ x l. refl) (p .atoms) (q .atoms))
+
+  hollowed : (a .hollow || b .hollow) ≡ anyEmpty (p .atoms ++ q .atoms)
+  hollowed = ap₂ _||_ (ha .hollow) (hb .hollow) ∙ sym (any-both anyEmpty (λ x. not (someLetter (holds x))) refl (λ x l. refl) (p .atoms) (q .atoms))
+
+  stored : (al : List Atom) → length al ≡ n → Stored al (m .sets) (m .credits) → Stored (al ++ (p .atoms ++ q .atoms)) (m₂ .sets) (m₂ .credits)
+  stored al l st =
+      subst (λ (x : List Atom). Stored x (m₂ .sets) (m₂ .credits)) (append-assoc al (p .atoms) (q .atoms))
+      (hb .stores (al ++ p .atoms) (omega (arith, l, ha .count, length-append al (p .atoms))) (ha .stores al l st))
+
+  pub has-either : (r : Parsed) → Either a b r → Has n m m₂ (eitherShape p q) r
+  has-either r e = record {
+    count = e .follows .count ∙ counted;
+    empty = e .empty ∙ ap₂ _||_ (ha .empty) (hb .empty);
+    firsts = marks-if (r .firsts) (a .firsts) (b .firsts) (p .first n) (q .first (n + length (p .atoms))) true (e .firsts) (ha .firsts) (after .firsts);
+    lasts = marks-if (r .lasts) (a .lasts) (b .lasts) (p .last n) (q .last (n + length (p .atoms))) true (e .lasts) (ha .lasts) (after .lasts);
+    reversed = e .follows .reversed ∙ turned;
+    hollow = e .follows .hollow ∙ hollowed;
+    adds = adds-both (m .rows) (m₁ .rows) (m₂ .rows) (p .follow n) (q .follow (n + length (p .atoms))) (ha .adds) (after .adds);
+    stores = stored;
+  }
+
+  pub has-joined : (rows : List ℕ) (r : Parsed) → Joins (m₂ .rows) rows a b r → Has n m (memory rows (m₂ .sets) (m₂ .credits)) (joinedShape p q) r
+  has-joined rows r e = record {
+    count = e .follows .count ∙ counted;
+    empty = e .empty ∙ ap₂ _&&_ (ha .empty) (hb .empty);
+    firsts =
+        subst (λ (t : Bool). Marks (r .firsts) (λ j. p .first n j || (t && q .first (n + length (p .atoms)) j))) (ha .empty)
+        (marks-if (r .firsts) (a .firsts) (b .firsts) (p .first n) (q .first (n + length (p .atoms))) (a .empty) (e .firsts) (ha .firsts) (after .firsts));
+    lasts =
+        subst (λ (t : Bool). Marks (r .lasts) (λ j. q .last (n + length (p .atoms)) j || (t && p .last n j))) (hb .empty)
+        (marks-if (r .lasts) (b .lasts) (a .lasts) (q .last (n + length (p .atoms))) (p .last n) (b .empty) (e .lasts) (after .lasts) (ha .lasts));
+    reversed = e .follows .reversed ∙ turned;
+    hollow = e .follows .hollow ∙ hollowed;
+    adds =
+        adds-both (m .rows) (m₁ .rows) rows (p .follow n) (λ x y. q .follow (n + length (p .atoms)) x y || (p .last n x && q .first (n + length (p .atoms)) y)) (ha .adds)
+        (adds-both (m₁ .rows) (m₂ .rows) rows (q .follow (n + length (p .atoms))) (λ x y. p .last n x && q .first (n + length (p .atoms)) y) (after .adds)
+        (adds-linked (m₂ .rows) rows (a .lasts) (b .firsts) (p .last n) (q .first (n + length (p .atoms))) (e .links) (ha .lasts) (after .firsts)));
+    stores = stored;
+  }

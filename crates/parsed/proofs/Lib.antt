@@ -1,0 +1,4 @@
+pub mod Joining
+pub mod Shapes
+pub mod Standing
+pub mod Storing

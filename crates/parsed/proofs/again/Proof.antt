@@ -1,0 +1,22 @@
+-- Where it goes round, its firsts may follow its lasts. Assumes nothing.
+use borrow.Author.Needs.{needs}
+use Rattle.parsed.proofs.Standing.{again-stands}
+use Rattle.parsed.proofs.again.Statement.{statement}
+use Rattle.parsed.proofs.again.Tie as tie
+
+union-if-requires : tie.Need-union-if-requires
+union-if-requires c κs = search needs
+
+link-requires : tie.Need-link-requires
+link-requires c κs = search needs
+
+add-out : tie.Need-add-out
+add-out c = search needs
+
+returns : tie.Need-returns
+returns c =
+    let linked = c .before .before .link .ensures in
+    (λ s at n m sets credits R k e f g l w. again-stands s at n m _ sets credits R _ w k _ _ e f g l _ _ (c .before .before .before .before .union-if .ensures) (linked .0), linked .1)
+
+pub again-spec : {M : Type 1} → statement M
+again-spec = tie.close (tie.spec union-if-requires link-requires add-out returns)

@@ -1,0 +1,2 @@
+-- Tables of sets of letters.
+pub mod Table
