@@ -67,7 +67,7 @@ pub record SteadyText (b e e′ : List ℕ) (r : Vetted) : Type 0 where
   pub second : r .second ≡ 0
   pub third : r .third ≡ 0
   pub written : Begins text e e′
-  pub graphOfBuilt : ShowsSteady (patternGraph b) text
+  pub shows : ShowsSteady (patternGraph b) text
   pub two-readings : 2 ≤ readings (patternGraph b) text
 
 -- Called runaway, x, y and z stand there one after the other: letters, 1 to p of x, 1 to p² + p of y, at most p of z. x leads to the first
@@ -87,7 +87,7 @@ pub record RunawayTexts (b e e′ : List ℕ) (r : Vetted) : Type 0 where
   pub second : r .second ≡ length y
   pub third : r .third ≡ length z
   pub written : Begins (x ++ (y ++ z)) e e′
-  pub graphOfBuilt : ShowsRunaway (patternGraph b) x y z
+  pub shows : ShowsRunaway (patternGraph b) x y z
   pub readings-double : (k : ℕ) → 2 ^ k ≤ readings (patternGraph b) (x ++ (times k y ++ z))
 
 -- Demand 3, where nothing is refused.
@@ -97,11 +97,11 @@ pub record TrueVerdict (b e e′ : List ℕ) (r : Vetted) : Type 0 where
   pub positions-is : r .positions ≡ positions (patternPart b)
   -- Single exactly when no answer that anyone could write has two readings; then nothing is shown, and the evidence is as before.
   pub single-exactly : (r .verdict ≡ 0) ↔ ((s : List ℕ) → allLetters s ≡ true → readings (patternGraph b) s ≤ 1)
-  pub single-graphOfBuilt : r .verdict ≡ 0 → (r .first ≡ 0) × (r .second ≡ 0) × (r .third ≡ 0) × (e′ ≡ e)
+  pub single-shows : r .verdict ≡ 0 → (r .first ≡ 0) × (r .second ≡ 0) × (r .third ≡ 0) × (e′ ≡ e)
   -- Steady: an answer of m letters has at most (m + 2)^(2p), p being what the call gave.
   pub steady-allows : r .verdict ≡ 1 → (s : List ℕ) → readings (patternGraph b) s ≤ (length s + 2) ^ (2 * r .positions)
-  pub steady-graphOfBuilt : r .verdict ≡ 1 → SteadyText b e e′ r
-  pub runaway-graphOfBuilt : r .verdict ≡ 2 → RunawayTexts b e e′ r
+  pub steady-shows : r .verdict ≡ 1 → SteadyText b e e′ r
+  pub runaway-shows : r .verdict ≡ 2 → RunawayTexts b e e′ r
   -- There is no fourth.
   pub verdict-low : r .verdict ≤ 2
 
@@ -176,45 +176,45 @@ module _ (b e e′ w w′ : List ℕ) (r : Vetted) (says : VetSays b e e′ w w�
       let said = judged .vets .verdict-is in
       let p = sym (judged .positions) in
       let shown : (v : ℕ) → r .verdict ≡ v → ShowsBy v (patternGraph b) e e′ (r .first) (r .second) (r .third) =
-      λ v is. subst (λ (k : ℕ). ShowsBy k (patternGraph b) e e′ (r .first) (r .second) (r .third)) is (judged .vets .graphOfBuilt) in
+      λ v is. subst (λ (k : ℕ). ShowsBy k (patternGraph b) e e′ (r .first) (r .second) (r .third)) is (judged .vets .shows) in
       record {
         verdict-is = said;
         positions-is = judged .positions;
         single-exactly = (λ v. Demands.single-allows-one b a .0 (sym said ∙ v), λ h. said ∙ Demands.single-allows-one b a .1 h);
-        single-graphOfBuilt = λ v. let t = shown 0 v in (t .first, t .second, t .third, t .kept);
+        single-shows = λ v. let t = shown 0 v in (t .first, t .second, t .third, t .kept);
         steady-allows = λ v s.
             subst (λ (n : ℕ). readings (patternGraph b) s ≤ (length s + 2) ^ (2 * n)) p (Demands.steady-allows b s a (λ t. let f = sym v ∙ said ∙ t in absurd (omega arith)));
-        steady-graphOfBuilt = λ v.
+        steady-shows = λ v.
             let t = shown 1 v in
             record {
               text = t .text;
-              letters = t .graphOfBuilt .letters;
-              short = subst (λ (n : ℕ). length (t .text) ≤ n * n + n) p (t .graphOfBuilt .short);
+              letters = t .shows .letters;
+              short = subst (λ (n : ℕ). length (t .text) ≤ n * n + n) p (t .shows .short);
               first = t .first;
               second = t .second;
               third = t .third;
               written = t .written;
-              graphOfBuilt = t .graphOfBuilt;
-              two-readings = Demands.steady-text-has-two b (t .text) a (t .graphOfBuilt);
+              shows = t .shows;
+              two-readings = Demands.steady-text-has-two b (t .text) a (t .shows);
             };
-        runaway-graphOfBuilt = λ v.
+        runaway-shows = λ v.
             let t = shown 2 v in
             record {
               x = t .x;
               y = t .y;
               z = t .z;
-              letters = t .graphOfBuilt .letters;
-              some-x = t .graphOfBuilt .some-x;
-              short-x = subst (λ (n : ℕ). length (t .x) ≤ n) p (t .graphOfBuilt .short-x);
-              some-y = t .graphOfBuilt .some-y;
-              short-y = subst (λ (n : ℕ). length (t .y) ≤ n * n + n) p (t .graphOfBuilt .short-y);
-              short-z = subst (λ (n : ℕ). length (t .z) ≤ n) p (t .graphOfBuilt .short-z);
+              letters = t .shows .letters;
+              some-x = t .shows .some-x;
+              short-x = subst (λ (n : ℕ). length (t .x) ≤ n) p (t .shows .short-x);
+              some-y = t .shows .some-y;
+              short-y = subst (λ (n : ℕ). length (t .y) ≤ n * n + n) p (t .shows .short-y);
+              short-z = subst (λ (n : ℕ). length (t .z) ≤ n) p (t .shows .short-z);
               first = t .first;
               second = t .second;
               third = t .third;
               written = t .written;
-              graphOfBuilt = t .graphOfBuilt;
-              readings-double = Demands.runaway-texts-double b (t .x) (t .y) (t .z) a (t .graphOfBuilt);
+              shows = t .shows;
+              readings-double = Demands.runaway-texts-double b (t .x) (t .y) (t .z) a (t .shows);
             };
         verdict-low = omega (arith, said, Demands.verdict-is-low b a);
       }

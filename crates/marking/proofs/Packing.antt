@@ -68,23 +68,23 @@ lengths-low (suc zero) g e e′ l m n few h =
     let a = h .first in
     let b = h .second in
     let c = h .third in
-    let t = h .graphOfBuilt .short in
+    let t = h .shows .short in
     omega arith
 lengths-low (suc (suc v)) g e e′ l m n few h =
     let q = square (g .positions) few in
     let a = h .first in
     let b = h .second in
     let c = h .third in
-    let x = h .graphOfBuilt .short-x in
-    let y = h .graphOfBuilt .short-y in
-    let z = h .graphOfBuilt .short-z in
+    let x = h .shows .short-x in
+    let y = h .shows .short-y in
+    let z = h .shows .short-z in
     omega arith
 
 fits-by : (k : ℕ) (s e e′ w w′ : List ℕ) (r : Vetted) → k ≤ 8 → (k ≡ 0 → patternRefusal s ≡ 0) → VetBy k s e e′ w w′ r → Fits r
 fits-by zero s e e′ w w′ r low a h =
     let j = h .judged in
     let few = refusal-none s (a refl) .few in
-    let l = lengths-low (r .verdict) (patternGraph s) e e′ (r .first) (r .second) (r .third) few (j .vets .graphOfBuilt) in
+    let l = lengths-low (r .verdict) (patternGraph s) e e′ (r .first) (r .second) (r .third) few (j .vets .shows) in
     record {
       refusal = omega (arith, j .refusal);
       verdict = omega (arith, j .vets .verdict-is, verdict-low (patternGraph s));

@@ -24,7 +24,7 @@ use Rattle.verdict.specs.Evidence.{times, ShowsSteady, ShowsRunaway}
 use Rattle.verdict.proofs.Steady.{steady}
 use Rattle.verdict.proofs.Doubling.{doubling}
 use Rattle.verdict.proofs.Pivots.{no-pivot}
-use Rattle.verdict.proofs.Shows.{unambiguous, steady-graphOfBuilt, runaway-graphOfBuilt, runaway-rounds}
+use Rattle.verdict.proofs.Shows.{unambiguous, steady-shows, runaway-shows, runaway-rounds}
 
 -- ---- the three verdicts
 
@@ -79,9 +79,9 @@ module _ (g : Graph) (trim : Trim g) where
   single = (
     λ v s l. by-verdict g (λ e a. single-most a s) (λ e a. absurd (omega arith)) (λ e d. absurd (omega arith)),
     λ h. by-verdict g (λ e a. e)
-        (λ e a. let w = steady-graphOfBuilt g trim a in let two = steady-shown g (w .0) (w .1) in let one = h (w .0) (w .1 .letters) in absurd (omega arith))
+        (λ e a. let w = steady-shows g trim a in let two = steady-shown g (w .0) (w .1) in let one = h (w .0) (w .1 .letters) in absurd (omega arith))
         (λ e d.
-        let w = runaway-graphOfBuilt g trim d in
+        let w = runaway-shows g trim d in
         let x = w .0 in
         let y = w .1 in
         let z = w .2 in
@@ -100,8 +100,8 @@ module _ (g : Graph) (trim : Trim g) where
 
   -- steady: there is a text to show
   pub steady-can : verdict g ≡ 1 → (s : List ℕ) × ShowsSteady g s
-  steady-can v = by-verdict g (λ e a. absurd (omega arith)) (λ e a. steady-graphOfBuilt g trim a) (λ e d. absurd (omega arith))
+  steady-can v = by-verdict g (λ e a. absurd (omega arith)) (λ e a. steady-shows g trim a) (λ e d. absurd (omega arith))
 
   -- runaway: there are texts to show
   pub runaway-can : verdict g ≡ 2 → (x : List ℕ) × (y : List ℕ) × (z : List ℕ) × ShowsRunaway g x y z
-  runaway-can v = by-verdict g (λ e a. absurd (omega arith)) (λ e a. absurd (omega arith)) (λ e d. runaway-graphOfBuilt g trim d)
+  runaway-can v = by-verdict g (λ e a. absurd (omega arith)) (λ e a. absurd (omega arith)) (λ e d. runaway-shows g trim d)

@@ -48,8 +48,8 @@ parting-steady g p =
       lowest = refl;
     }
 
-pub steady-graphOfBuilt : (g : Graph) → Trim g → ambiguous g ≡ true → (s : List ℕ) × ShowsSteady g s
-steady-graphOfBuilt g trim h = let p = parting g trim 0 (bothLast g) h in (shown g (p .one) (p .other), parting-steady g p)
+pub steady-shows : (g : Graph) → Trim g → ambiguous g ≡ true → (s : List ℕ) × ShowsSteady g s
+steady-shows g trim h = let p = parting g trim 0 (bothLast g) h in (shown g (p .one) (p .other), parting-steady g p)
 
 -- ---- runaway
 
@@ -127,8 +127,8 @@ module _ (g : Graph) (trim : Trim g) where
         lowest-z = refl;
       }
 
-  pub runaway-graphOfBuilt : (firstPivot g ≡ 0 → ⊥) → (x : List ℕ) × (y : List ℕ) × (z : List ℕ) × ShowsRunaway g x y z
-  runaway-graphOfBuilt h =
+  pub runaway-shows : (firstPivot g ≡ 0 → ⊥) → (x : List ℕ) × (y : List ℕ) × (z : List ℕ) × ShowsRunaway g x y z
+  runaway-shows h =
       let p = first-pivot g h in
       let w = trim .useful (firstPivot g) (p .0) in
       let m = pivot-loops g trim (firstPivot g) (p .1) in

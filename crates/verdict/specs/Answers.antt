@@ -22,7 +22,7 @@ pub record Single (e e′ : List ℕ) (l m n : ℕ) : Type 0 where
 -- [Vetting] steady: a text, and its length first
 pub record Steady (g : Graph) (e e′ : List ℕ) (l m n : ℕ) : Type 0 where
   pub text : List ℕ
-  pub graphOfBuilt : ShowsSteady g text
+  pub shows : ShowsSteady g text
   pub first : l ≡ length text
   pub second : m ≡ 0
   pub third : n ≡ 0
@@ -33,7 +33,7 @@ pub record Runaway (g : Graph) (e e′ : List ℕ) (l m n : ℕ) : Type 0 where
   pub x : List ℕ
   pub y : List ℕ
   pub z : List ℕ
-  pub graphOfBuilt : ShowsRunaway g x y z
+  pub shows : ShowsRunaway g x y z
   pub first : l ≡ length x
   pub second : m ≡ length y
   pub third : n ≡ length z
@@ -48,4 +48,4 @@ ShowsBy (suc (suc k)) g e e′ l m n = Runaway g e e′ l m n
 -- the verdict is the rules', and its texts are shown
 pub record Vets (g : Graph) (e e′ : List ℕ) (v l m n : ℕ) : Type 0 where
   pub verdict-is : v ≡ verdict g
-  pub graphOfBuilt : ShowsBy v g e e′ l m n
+  pub shows : ShowsBy v g e e′ l m n

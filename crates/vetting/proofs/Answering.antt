@@ -197,7 +197,7 @@ module _ {b : Built} (fit : Vettable b) where
         let n = s .none l in
         record {
           verdict-is = sym (verdict-low ∙ if-no 1 0 (ambiguous g) (none-parts rows-of sh (onlyAt (b .lasts)) refl 0 zero-le (n .1)));
-          graphOfBuilt = record { first = refl; second = refl; third = refl; kept = n .0 };
+          shows = record { first = refl; second = refl; third = refl; kept = n .0 };
         }
 
     pub steady-answer : r < 4096 → Vets g e e′ 1 r 0 0
@@ -208,9 +208,9 @@ module _ {b : Built} (fit : Vettable b) where
         let size : length text ≡ r = length-map (t .nodes) (letterAt (b .letters)) ∙ t .size in
         record {
           verdict-is = sym (verdict-low ∙ if-yes 1 0 (ambiguous g) (some-parts rows-of sh (onlyAt (b .lasts)) refl 0 zero-le (t .nodes) (t .goes) (t .meets)));
-          graphOfBuilt = record {
+          shows = record {
             text = text;
-            graphOfBuilt = subst (ShowsSteady g) (sym (w .text)) (parting-steady g (w .walks));
+            shows = subst (ShowsSteady g) (sym (w .text)) (parting-steady g (w .walks));
             first = sym size;
             second = refl;
             third = refl;
@@ -294,11 +294,11 @@ module _ {b : Built} (fit : Vettable b) where
         let b3 = begins-more (text (tx .nodes) ++ text (ty .nodes)) (text (tz .nodes)) e e2 e3 (x + y) z (length-append (text (tx .nodes)) (text (ty .nodes)) ∙ ap₂ _+_ sx sy) sz b2 (tz .text) in
         record {
           verdict-is = sym (if-yes 2 (if ambiguous g then 1 else 0) (not (eqb (firstPivot g) 0)) (ap not (ne-eqb (firstPivot g) 0 (λ n. omega (arith, at .is, at .some)))));
-          graphOfBuilt = record {
+          shows = record {
             x = text (tx .nodes);
             y = text (ty .nodes);
             z = text (tz .nodes);
-            graphOfBuilt = shows-same (i .text) (w .text) (o .text) (at-pivot ways (parting-loops g q (w .walks)));
+            shows = shows-same (i .text) (w .text) (o .text) (at-pivot ways (parting-loops g q (w .walks)));
             first = sym sx;
             second = sym sy;
             third = sym sz;
