@@ -11,7 +11,7 @@ use Rattle.basics.proofs.Tests.{by-test, if-yes, if-no}
 use Rattle.graph.specs.Graph.{Graph}
 use Rattle.graph.specs.Trim.{Trim}
 use Rattle.pattern.specs.Refusals.{patternRefusal, builtGraph}
-use Rattle.pattern.proofs.Useful.{trim}
+use Rattle.pattern.proofs.Doubled.{trim}
 use Rattle.vetting.specs.Answers.{Judged}
 use Rattle.vetting.specs.declared.Vetted.{Vetted}
 use Rattle.calls.specs.Vetting.{vetRefusal, refused, Answers, Declined, VetBy, VetSays}

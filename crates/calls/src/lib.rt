@@ -17,19 +17,21 @@ pub fn vet_pattern(pattern: &[u8], evidence: &mut [u8], scratch: &mut [u16]) -> 
     if scratch.len() < 8192 {
         return no_verdict(2);
     }
-    let p = reader::read(pattern);
+    let mut more = [0u8; 3721];
+    let p = reader::read(pattern, &mut more);
     if p.refusal != 0 {
         return no_verdict(p.refusal);
     }
     let built = p.built;
-    vetting::vet(built, &mut *evidence, &mut *scratch)
+    vetting::vet(built, &more, &mut *evidence, &mut *scratch)
 }
 
 // Marks an answer by a pattern.
 pub fn mark_answer(pattern: &[u8], answer: &[u8]) -> Marked
     ensures { λ r. ⌜ MarkSays (now (pattern .entry)) (now (answer .entry)) r ⌝ }
 {
-    let p = reader::read(pattern);
+    let mut more = [0u8; 3721];
+    let p = reader::read(pattern, &mut more);
     if p.refusal != 0 {
         return no_mark(p.refusal);
     }
@@ -40,7 +42,7 @@ pub fn mark_answer(pattern: &[u8], answer: &[u8]) -> Marked
         return no_mark(10);
     }
     let built = p.built;
-    marks::mark(built, answer)
+    marks::mark(built, &more, answer)
 }
 
 // A refusal to vet.

@@ -1,3 +1,4 @@
+pub mod Links
 pub mod Walks
 pub mod Counting
 pub mod Marks

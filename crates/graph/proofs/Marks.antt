@@ -2,15 +2,18 @@
 -- Assumes nothing.
 use mathlib.Core.Path.{_≡_, sym}
 use mathlib.Core.Logic.{⊎-elim}
-use mathlib.Core.Bool.{true, false≢true}
+use mathlib.Core.Bool.{true, _&&_, false≢true}
 use mathlib.Core.List.{List, [], _∷_}
 use Prim.Native.Nat.{ℕ, zero, suc, _+_, _≤_}
 use native.Mathlib.Nat.{le-trans}
 use native.Mathlib.Omega.{arith}
+use lib.Dec.{ltb}
+use borrow.Author.Tests.{lt-ltb}
 use Rattle.basics.proofs.Tests.{and-parts, and-of, if-yes, if-no, by-test, le-or-lt}
 use Rattle.basics.proofs.Folds.{most-above, most-found}
 use Rattle.graph.specs.Graph.{Graph, step}
-use Rattle.graph.specs.Readings.{readsFrom, isReading, creditOf, readings, added, bestFrom, mark}
+use Rattle.graph.specs.Readings.{Transition, transition, readsFrom, isReading, creditOf, readings, added, bestFrom, mark}
+use Rattle.graph.proofs.Links.{some-of}
 use Rattle.graph.proofs.Walks.{position-of, step-parts}
 use Rattle.graph.proofs.Counting.{reading-counts, count-reading}
 
@@ -23,17 +26,19 @@ added-some c zero h = absurd (omega arith)
 added-some c (suc k) h = (omega arith, omega arith)
 
 module _ (g : Graph) where
-  best-above : (s : List ℕ) (u : ℕ) (r : List ℕ) → readsFrom g u s r ≡ true → suc (creditOf g r) ≤ bestFrom g u s
+  best-above : (s : List ℕ) (u : ℕ) (r : List Transition) → readsFrom g u s r ≡ true → suc (creditOf g r) ≤ bestFrom g u s
   best-above [] u [] h = let e = if-yes {A = ℕ} 1 0 (g .last u) h in omega arith
-  best-above [] u (i ∷ r) h = absurd (false≢true h)
+  best-above [] u (t ∷ r) h = absurd (false≢true h)
   best-above (b ∷ s) u [] h = absurd (false≢true h)
-  best-above (b ∷ s) u (i ∷ r) h =
-      let p = and-parts (step g u b i) (readsFrom g i s r) h in
-      let l = position-of g i (step-parts g u b i (p .0) .0) .1 in
+  best-above (b ∷ s) u (t ∷ r) h =
+      let i = t .position in
+      let p = and-parts (step g u b i && ltb (t .link) (g .links u i)) (readsFrom g i s r) h in
+      let e = and-parts (step g u b i) (ltb (t .link) (g .links u i)) (p .0) .0 in
+      let l = position-of g i (step-parts g u b i e .0) .1 in
       le-trans (added-above (g .credit i) (creditOf g r) (bestFrom g i s) (best-above s i r (p .1)))
-      (most-above (step g u b) (λ j. added (g .credit j) (bestFrom g j s)) (suc (g .positions)) i (omega arith) (p .0))
+      (most-above (step g u b) (λ j. added (g .credit j) (bestFrom g j s)) (suc (g .positions)) i (omega arith) e)
 
-  best-earned : (s : List ℕ) (u : ℕ) → 1 ≤ bestFrom g u s → (r : List ℕ) × (readsFrom g u s r ≡ true) × (suc (creditOf g r) ≡ bestFrom g u s)
+  best-earned : (s : List ℕ) (u : ℕ) → 1 ≤ bestFrom g u s → (r : List Transition) × (readsFrom g u s r ≡ true) × (suc (creditOf g r) ≡ bestFrom g u s)
   best-earned [] u h = by-test (g .last u) (λ e. ([], e, sym (if-yes {A = ℕ} 1 0 (g .last u) e))) (λ e. let z = if-no {A = ℕ} 1 0 (g .last u) e in absurd (omega arith))
   best-earned (b ∷ s) u h =
       let m = most-found (step g u b) (λ j. added (g .credit j) (bestFrom g j s)) (suc (g .positions)) h in
@@ -43,14 +48,15 @@ module _ (g : Graph) where
       let k = a .1 in
       let w = best-earned s i (a .0) in
       let c = w .2 in
-      (i ∷ w .0, and-of (step g u b i) (readsFrom g i s (w .0)) (m .2) (w .1), omega arith)
+      let one = some-of (g .links u i) (step-parts g u b i (m .2) .1) in
+      (transition i 0 ∷ w .0, and-of (step g u b i && ltb 0 (g .links u i)) (readsFrom g i s (w .0)) (and-of (step g u b i) (ltb 0 (g .links u i)) (m .2) (lt-ltb 0 (g .links u i) one)) (w .1), omega arith)
 
   -- no reading earns more than the mark
-  pub mark-most : (s r : List ℕ) → isReading g s r ≡ true → creditOf g r ≤ mark g s
+  pub mark-most : (s : List ℕ) (r : List Transition) → isReading g s r ≡ true → creditOf g r ≤ mark g s
   mark-most s r h = let b = best-above s 0 r h in omega arith
 
   -- where there is a reading, one earns it
-  pub mark-earned : (s : List ℕ) → 1 ≤ readings g s → (r : List ℕ) × (isReading g s r ≡ true) × (creditOf g r ≡ mark g s)
+  pub mark-earned : (s : List ℕ) → 1 ≤ readings g s → (r : List Transition) × (isReading g s r ≡ true) × (creditOf g r ≡ mark g s)
   mark-earned s h =
       let q = count-reading g s h in
       let b = best-above s 0 (q .0) (q .1) in

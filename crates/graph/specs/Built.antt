@@ -1,15 +1,18 @@
--- The graph that a built pattern shows.
+-- The graph that a built pattern shows, with the table of the links beyond the first: from state u to position i at 61 * u + i.
+use mathlib.Core.List.{List}
+use Prim.Native.Nat.{ℕ, suc, _+_, _*_}
 use lib.ListN.{getD}
+use Rattle.basics.specs.Choice.{if_then_else_}
 use Rattle.bits.specs.Bits.{hasBit}
 use Rattle.letters.specs.LetterSet.{hasLetter}
 use Rattle.letters.specs.LetterSet.{setAt}
 use Rattle.graph.specs.Graph.{Graph}
 use Rattle.graph.specs.declared.Built.{Built}
 
-abbrev pub graphOfBuilt : Built → Graph
-graphOfBuilt b = record {
+abbrev pub graphOfBuilt : Built → List ℕ → Graph
+graphOfBuilt b more = record {
   positions = b .positions;
-  next = λ u i. hasBit (getD (b .follow) u 0) i;
+  links = λ u i. if hasBit (getD (b .follow) u 0) i then suc (getD more (61 * u + i) 0) else 0;
   last = λ u. hasBit (b .lasts) u;
   holds = λ i c. hasLetter (setAt (b .letters) i) c;
   credit = λ i. getD (b .credits) i 0;

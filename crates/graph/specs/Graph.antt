@@ -2,15 +2,25 @@
 -- A state is 0, before any letter, or a position, 1 to `positions`. It has no other pattern in view: any such graph will do.
 use mathlib.Core.Path.{_≡_}
 use mathlib.Core.Bool.{Bool, true, false, _&&_}
-use Prim.Native.Nat.{ℕ, _≤_}
+use Prim.Native.Nat.{ℕ, zero, suc, _≤_}
 use lib.Dec.{leb}
 use Rattle.alphabet.specs.Alphabet.{isLetter}
+
+-- are there any; are there two or more
+abbrev pub some : ℕ → Bool
+some zero = false
+some (suc n) = true
+
+abbrev pub several : ℕ → Bool
+several zero = false
+several (suc zero) = false
+several (suc (suc n)) = true
 
 pub record Graph : Type 0 where
   -- how many positions there are
   pub positions : ℕ
-  -- may a position come next: at 0 is it a first, at a position may it follow
-  pub next : ℕ → ℕ → Bool
+  -- how many links lead from a state to a position: from 0 one to a first, from a position as many as let the other follow it
+  pub links : ℕ → ℕ → ℕ
   -- may a reading end here: at 0 can the pattern be empty, at a position is it a last
   pub last : ℕ → Bool
   -- does a position's set hold a letter
@@ -21,20 +31,32 @@ pub record Graph : Type 0 where
 abbrev pub isPosition : Graph → ℕ → Bool
 isPosition g i = leb 1 i && leb i (g .positions)
 
+-- [Follows] may a position come next at a state: does a link lead there
+abbrev pub next : Graph → ℕ → ℕ → Bool
+next g u i = some (g .links u i)
+
+-- [Links] is there a choice between links
+abbrev pub doubled : Graph → ℕ → ℕ → Bool
+doubled g u i = several (g .links u i)
+
+-- no two states have more than one link between them
+abbrev pub Single : Graph → Type 0
+Single g = (u i : ℕ) → doubled g u i ≡ false
+
 -- position i may come next at state u, and its set holds the letter b
 abbrev pub step : Graph → ℕ → ℕ → ℕ → Bool
-step g u b i = isPosition g i && (g .next u i && g .holds i b)
+step g u b i = isPosition g i && (next g u i && g .holds i b)
 
 -- no pattern: no position, no reading
 abbrev pub noGraph : Graph
-noGraph = record { positions = 0; next = λ u i. false; last = λ u. false; holds = λ i b. false; credit = λ i. 0 }
+noGraph = record { positions = 0; links = λ u i. 0; last = λ u. false; holds = λ i b. false; credit = λ i. 0 }
 
 -- what holds of every pattern's graph and bounds the numbers in a program over it: at most 60 positions, nothing beyond them,
 -- letters only, credits of one digit
 pub record Bounded (g : Graph) : Type 0 where
   pub few : g .positions ≤ 60
-  pub next-from : (u i : ℕ) → g .next u i ≡ true → u ≤ g .positions
-  pub next-to : (u i : ℕ) → g .next u i ≡ true → isPosition g i ≡ true
+  pub next-from : (u i : ℕ) → next g u i ≡ true → u ≤ g .positions
+  pub next-to : (u i : ℕ) → next g u i ≡ true → isPosition g i ≡ true
   pub last-from : (u : ℕ) → g .last u ≡ true → u ≤ g .positions
   pub holds-at : (i b : ℕ) → g .holds i b ≡ true → isPosition g i ≡ true
   pub letters : (i b : ℕ) → g .holds i b ≡ true → isLetter b ≡ true

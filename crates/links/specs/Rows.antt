@@ -1,11 +1,12 @@
--- Sets and rows of positions, as the program holds them. Positions past 60 are counted and have no place in a set and no row, so
--- each fact holds of every number.
+-- Sets and rows of positions, as the program holds them, and the numbers of links. Positions past 60 are counted and have no place
+-- in a set and no row, so each fact of sets and rows holds of every number; the numbers of links are those of kept pairs.
 use mathlib.Core.Path.{_≡_}
-use mathlib.Core.Bool.{Bool, _&&_, _||_}
+use mathlib.Core.Bool.{Bool, true, false, _&&_, _||_}
 use mathlib.Core.List.{List}
-use Prim.Native.Nat.{ℕ}
-use lib.Dec.{ltb}
-use lib.ListN.{getD}
+use Prim.Native.Nat.{ℕ, zero, suc, _+_, _*_}
+use lib.Dec.{eqb, ltb}
+use lib.ListN.{length, getD}
+use Rattle.basics.specs.Choice.{if_then_else_}
 use Rattle.bits.specs.Bits.{hasBit}
 
 -- has a number a place in a set, and a row
@@ -27,3 +28,49 @@ Adds before g r = (a b : ℕ) → hasBit (getD r a 0) b ≡ (hasBit (getD before
 -- the rows r are those before, and each of firsts may follow each of lasts that has a row
 abbrev pub Linked : List ℕ → ℕ → ℕ → List ℕ → Type 0
 Linked before lasts firsts r = (a b : ℕ) → hasBit (getD r a 0) b ≡ (hasBit (getD before a 0) b || ((kept a && hasBit lasts a) && hasBit firsts b))
+
+-- ---- numbers of links
+
+-- the entry of a pair in the table of links beyond the first
+abbrev pub entry : ℕ → ℕ → ℕ
+entry a b = 61 * a + b
+
+-- how many links lead from a to b: the first is in the rows, the others are counted
+abbrev pub number : List ℕ → List ℕ → ℕ → ℕ → ℕ
+number rows more a b = (if hasBit (getD rows a 0) b then 1 else 0) + getD more (entry a b) 0
+
+-- one more, up to 256
+abbrev pub oneMore : ℕ → ℕ
+oneMore n = if ltb n 256 then suc n else n
+
+-- k more, up to 256
+abbrev pub after : ℕ → ℕ → ℕ
+after zero n = n
+after (suc k) n = oneMore (after k n)
+
+-- one more beyond the first, up to 255
+abbrev pub further : ℕ → ℕ
+further n = if ltb n 255 then n + 1 else n
+
+-- of each kept pair, as many links more as k says
+abbrev pub Counts : List ℕ → List ℕ → (ℕ → ℕ → ℕ) → List ℕ → List ℕ → Type 0
+Counts rows more k rows′ more′ = (a b : ℕ) → kept a ≡ true → kept b ≡ true → number rows′ more′ a b ≡ after (k a b) (number rows more a b)
+
+-- as many links more as k says: in the rows the pairs that have one, and the numbers
+pub record Gains (rows more : List ℕ) (k : ℕ → ℕ → ℕ) (rows′ more′ : List ℕ) : Type 0 where
+  pub adds : Adds rows (λ a b. ltb 0 (k a b)) rows′
+  pub counts : Counts rows more k rows′ more′
+
+-- one more beyond the first from a to each of a set
+pub record Further (more : List ℕ) (a set : ℕ) (more′ : List ℕ) : Type 0 where
+  pub counts : (x y : ℕ) → kept y ≡ true → getD more′ (entry x y) 0 ≡ (if eqb a x && hasBit set y then further (getD more (entry x y) 0) else getD more (entry x y) 0)
+  pub none : set ≡ 0 → more′ ≡ more
+  pub size : length more′ ≡ 3721
+
+-- each of firsts may follow each of lasts that has a row, by one link more; where r is false none is a second one
+pub record LinksMore (rows more : List ℕ) (lasts firsts : ℕ) (rows′ more′ : List ℕ) (r : Bool) : Type 0 where
+  pub linked : Linked rows lasts firsts rows′
+  pub counts : Counts rows more (λ a b. if hasBit lasts a && hasBit firsts b then 1 else 0) rows′ more′
+  pub single : r ≡ false → more′ ≡ more
+  pub rows-are : length rows′ ≡ 61
+  pub more-are : length more′ ≡ 3721

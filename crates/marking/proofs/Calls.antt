@@ -13,7 +13,7 @@ use borrow.Author.Tests.{eq-eqb, ne-eqb}
 use Rattle.basics.specs.Lists.{Apart, In}
 use Rattle.basics.proofs.Tests.{if-yes, if-no}
 use Rattle.alphabet.specs.Alphabet.{allLetters}
-use Rattle.graph.specs.Readings.{isReading, readings, creditOf, mark}
+use Rattle.graph.specs.Readings.{Transition, isReading, readings, creditOf, mark}
 use Rattle.graph.proofs.Counting.{reading-counts, count-reading}
 use Rattle.pattern.specs.Grammar.{patternPart}
 use Rattle.pattern.specs.Refusals.{patternRefusal}
@@ -41,10 +41,10 @@ pub record TrueMark (b s : List ℕ) (r : Marked) : Type 0 where
   -- An answer has a reading exactly when it belongs to the pattern's texts.
   pub counts-exactly-texts : Text (patternPart b) s ↔ (1 ≤ r .count)
   -- The count is the true one or 2^63: some list has all readings, each of them once, and the count is its length up to 2^63.
-  pub count-is-true : (rs : List (List ℕ)) × Apart rs × ((q : List ℕ) → In q rs ↔ (isReading (patternGraph b) s q ≡ true)) × (r .count ≡ min (length rs) (2 ^ 63))
+  pub count-is-true : (rs : List (List Transition)) × Apart rs × ((q : List Transition) → In q rs ↔ (isReading (patternGraph b) s q ≡ true)) × (r .count ≡ min (length rs) (2 ^ 63))
   -- The mark is the most credit one reading earns, 0 if there is none.
-  pub mark-is-earned : 1 ≤ r .count → (q : List ℕ) × (isReading (patternGraph b) s q ≡ true) × (creditOf (patternGraph b) q ≡ r .mark)
-  pub mark-is-most : (q : List ℕ) → isReading (patternGraph b) s q ≡ true → creditOf (patternGraph b) q ≤ r .mark
+  pub mark-is-earned : 1 ≤ r .count → (q : List Transition) × (isReading (patternGraph b) s q ≡ true) × (creditOf (patternGraph b) q ≡ r .mark)
+  pub mark-is-most : (q : List Transition) → isReading (patternGraph b) s q ≡ true → creditOf (patternGraph b) q ≤ r .mark
   pub mark-is-none : r .count ≡ 0 → r .mark ≡ 0
 
 pub record MarkKeeps (b s : List ℕ) (r : Marked) : Type 0 where

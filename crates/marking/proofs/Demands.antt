@@ -1,6 +1,7 @@
 -- Demands 2 and 3 for every accepted pattern, and that vetting can show its texts. Each statement is one sentence of a demand; its
 -- proof cites the crate that has it. In all of them b is a pattern's bytes, `patternRefusal b ≡ 0` says that the pattern is accepted,
--- `patternGraph b` is its graph, and s is an answer: any list of letters, of any length. Assumes nothing.
+-- `patternGraph b` is its graph, and s is an answer: any list of letters, of any length. A reading r is a list of transitions, each a
+-- position and the link taken to it. Assumes nothing.
 use mathlib.Core.Path.{_≡_}
 use mathlib.Core.Logic.{_↔_}
 use mathlib.Core.Bool.{true}
@@ -9,7 +10,7 @@ use Prim.Native.Nat.{ℕ, _+_, _*_, _^_, _≤_}
 use lib.ListN.{length}
 use Rattle.basics.specs.Lists.{Apart, In}
 use Rattle.alphabet.specs.Alphabet.{allLetters}
-use Rattle.graph.specs.Readings.{isReading, readings, creditOf, mark}
+use Rattle.graph.specs.Readings.{Transition, isReading, readings, creditOf, mark}
 use Rattle.graph.proofs.Counting as Counting
 use Rattle.graph.proofs.Marks as Marks
 use Rattle.pattern.specs.Grammar.{patternPart}
@@ -17,7 +18,7 @@ use Rattle.pattern.specs.Refusals.{patternRefusal}
 use Rattle.pattern.specs.Positions.{positions, patternGraph}
 use Rattle.pattern.specs.Texts.{Text}
 use Rattle.pattern.proofs.Texts as Texts
-use Rattle.pattern.proofs.Useful.{trim}
+use Rattle.pattern.proofs.Doubled.{trim}
 use Rattle.verdict.specs.Verdict.{verdict}
 use Rattle.verdict.specs.Evidence.{times, ShowsSteady, ShowsRunaway}
 use Rattle.verdict.proofs.Bounds as Bounds
@@ -25,21 +26,21 @@ use Rattle.verdict.proofs.Bounds as Bounds
 -- ---- Demand 2
 
 -- "An answer has a reading exactly when it belongs to the pattern's texts as POSIX defines alternation, joining and repetition."
-pub texts-are-readings : (b s : List ℕ) → patternRefusal b ≡ 0 → Text (patternPart b) s ↔ ((r : List ℕ) × (isReading (patternGraph b) s r ≡ true))
+pub texts-are-readings : (b s : List ℕ) → patternRefusal b ≡ 0 → Text (patternPart b) s ↔ ((r : List Transition) × (isReading (patternGraph b) s r ≡ true))
 texts-are-readings b s a = Texts.texts-read (patternPart b) s
 
 -- "The count is the true one": some list has all readings, each of them once, and is as long as the count says.
 pub count-is-true : (b s : List ℕ) → patternRefusal b ≡ 0
-    → (rs : List (List ℕ)) × Apart rs × ((r : List ℕ) → In r rs ↔ (isReading (patternGraph b) s r ≡ true)) × (length rs ≡ readings (patternGraph b) s)
+    → (rs : List (List Transition)) × Apart rs × ((r : List Transition) → In r rs ↔ (isReading (patternGraph b) s r ≡ true)) × (length rs ≡ readings (patternGraph b) s)
 count-is-true b s a = Counting.readings-listed (patternGraph b) s
 
 -- "The mark is the most credit one reading earns": where there is a reading, one earns it;
 pub mark-is-earned : (b s : List ℕ) → patternRefusal b ≡ 0 → 1 ≤ readings (patternGraph b) s
-    → (r : List ℕ) × (isReading (patternGraph b) s r ≡ true) × (creditOf (patternGraph b) r ≡ mark (patternGraph b) s)
+    → (r : List Transition) × (isReading (patternGraph b) s r ≡ true) × (creditOf (patternGraph b) r ≡ mark (patternGraph b) s)
 mark-is-earned b s a = Marks.mark-earned (patternGraph b) s
 
 -- no reading earns more;
-pub mark-is-most : (b s r : List ℕ) → patternRefusal b ≡ 0 → isReading (patternGraph b) s r ≡ true → creditOf (patternGraph b) r ≤ mark (patternGraph b) s
+pub mark-is-most : (b s : List ℕ) (r : List Transition) → patternRefusal b ≡ 0 → isReading (patternGraph b) s r ≡ true → creditOf (patternGraph b) r ≤ mark (patternGraph b) s
 mark-is-most b s r a = Marks.mark-most (patternGraph b) s r
 
 -- "0 if there is none."

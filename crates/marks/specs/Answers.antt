@@ -1,14 +1,15 @@
 -- What the rows say of the answer. It is said of every way that the answer can go on: from the row alone the count and the mark of
 -- the whole answer follow.
 use mathlib.Core.Path.{_≡_}
-use mathlib.Core.Bool.{true}
+use mathlib.Core.Bool.{Bool, true}
 use mathlib.Core.List.{List, _++_}
 use Prim.Native.Nat.{ℕ, _*_, _^_, _≤_, min}
 use lib.ListN.{length, getD}
+use Rattle.basics.specs.Choice.{if_then_else_}
 use Rattle.bits.specs.Bits.{hasBit}
-use Rattle.graph.specs.Graph.{Graph}
+use Rattle.graph.specs.Graph.{Graph, Bounded}
 use Rattle.graph.specs.Readings.{countFrom, readings, added, bestFrom, mark}
-use Rattle.frontier.specs.Rows.{cell, countOf, mostOf}
+use Rattle.frontier.specs.Rows.{cell, countOf, mostOf, weight}
 
 -- after the letters s, in the graph g
 pub record Row (g : Graph) (s : List ℕ) (from active : ℕ) (counts best : List ℕ) : Type 0 where
@@ -16,11 +17,16 @@ pub record Row (g : Graph) (s : List ℕ) (from active : ℕ) (counts best : Lis
   pub marked : (t : List ℕ) → mostOf active (λ u. added (cell best from u) (bestFrom g u t)) ≡ bestFrom g 0 (s ++ t)
   pub low : (u : ℕ) → hasBit active u ≡ true → cell best from u ≤ 9 * length s
 
--- the graph that the tables show: for each letter the positions that hold it, for each position the states before it
-abbrev pub graphOfTables : ℕ → List ℕ → List ℕ → ℕ → List ℕ → Graph
-graphOfTables positions holders before lasts credits = record {
+-- how many links lead from state u to position i: none where u is not before it
+abbrev pub linksOfTables : List ℕ → Bool → List ℕ → ℕ → ℕ → ℕ
+linksOfTables before linked more u i = if hasBit (getD before i 0) u then weight linked more u i else 0
+
+-- the graph that the tables show: for each letter the positions that hold it, for each position the states before it, and where
+-- there can be several links, for each state and position those beyond the first
+abbrev pub graphOfTables : ℕ → List ℕ → List ℕ → ℕ → List ℕ → Bool → List ℕ → Graph
+graphOfTables positions holders before lasts credits linked more = record {
   positions = positions;
-  next = λ u i. hasBit (getD before i 0) u;
+  links = linksOfTables before linked more;
   last = λ u. hasBit lasts u;
   holds = λ i b. hasBit (getD holders b 0) i;
   credit = λ i. getD credits i 0;
@@ -30,3 +36,8 @@ graphOfTables positions holders before lasts credits = record {
 pub record Answered (g : Graph) (s : List ℕ) (count most : ℕ) : Type 0 where
   pub counts : count ≡ min (readings g s) (2 ^ 63)
   pub marks : most ≡ mark g s
+
+-- the same in the graph of the tables: how many positions it has plays no part, as long as it is within the bounds
+abbrev pub TablesAnswered : List ℕ → List ℕ → ℕ → List ℕ → Bool → List ℕ → List ℕ → ℕ → ℕ → Type 0
+TablesAnswered holders before lasts credits linked more s count most = (positions : ℕ) → Bounded (graphOfTables positions holders before lasts credits linked more)
+    → Answered (graphOfTables positions holders before lasts credits linked more) s count most

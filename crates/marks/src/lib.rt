@@ -2,11 +2,12 @@
 use frontier::Sum;
 use graph::Built;
 ghost use mathlib.Core.Path.{_≡_};
+ghost use mathlib.Core.Bool.{false};
 ghost use Prim.Native.Nat.{ℕ, _<_, _≤_, _^_};
 ghost use lib.ListN.{length, getD};
-ghost use Rattle.graph.specs.Graph.{Bounded};
+ghost use Rattle.graph.specs.Graph.{Bounded, Single};
 ghost use Rattle.graph.specs.Built.{graphOfBuilt};
-ghost use Rattle.marks.specs.Answers.{graphOfTables, Answered};
+ghost use Rattle.marks.specs.Answers.{Answered, TablesAnswered};
 
 // What marking gives: the refusal, or 0 and the number of readings, 2^63 where it is that or more, and the most credit that one
 // earns, 0 where there is none. By a built pattern no answer is refused.
@@ -16,10 +17,11 @@ pub struct Marked {
     pub mark: u32,
 }
 
-// The number of readings of an answer and its mark. A byte that is no letter is held by no position.
-pub fn mark(b: Built, answer: &[u8]) -> Marked
-    requires { ⌜ Bounded (graphOfBuilt b) × (length (now answer) ≤ 4096) ⌝ }
-    ensures { λ r. ⌜ (r .refusal ≡ 0) × Answered (graphOfBuilt b) (now (answer .entry)) (r .count) (r .mark) ⌝ }
+// The number of readings of an answer and its mark. A byte that is no letter is held by no position. `more` is the table of the
+// links beyond the first; it is read only where `b.doubled` says that there is one.
+pub fn mark(b: Built, more: &[u8], answer: &[u8]) -> Marked
+    requires { ⌜ Bounded (graphOfBuilt b (now more)) × (b .doubled ≡ false → Single (graphOfBuilt b (now more))) × (length (now more) ≡ 3721) × (length (now answer) ≤ 4096) ⌝ }
+    ensures { λ r. ⌜ (r .refusal ≡ 0) × Answered (graphOfBuilt b (now (more .entry))) (now (answer .entry)) (r .count) (r .mark) ⌝ }
 {
     let before = columns::states_before(&b.follow, b.positions);
     let holders = columns::holders_of(b.letters, b.positions);
@@ -34,6 +36,8 @@ pub fn mark(b: Built, answer: &[u8]) -> Marked
         &before,
         b.lasts,
         &credits,
+        b.doubled,
+        more,
     );
     Marked {
         refusal: 0,
@@ -42,8 +46,7 @@ pub fn mark(b: Built, answer: &[u8]) -> Marked
     }
 }
 
-// The answer, letter by letter, until no state is possible. The rows are at 0 and at 61, in turn. How many positions the graph of
-// the tables has plays no part in it, as long as that graph is within the bounds.
+// The answer, letter by letter, until no state is possible. The rows are at 0 and at 61, in turn.
 fn run(
     counts: &mut [u64],
     best: &mut [u32],
@@ -52,10 +55,11 @@ fn run(
     before: &[u64; 61],
     lasts: u64,
     credits: &[u8; 61],
+    linked: bool,
+    more: &[u8],
 ) -> Sum
-    requires { ⌜ (122 ≤ length (now counts)) × (122 ≤ length (now best)) × (length (now answer) ≤ 4096) × ((b : ℕ) → getD (now holders) b 0 < 2 ^ 61) ⌝ }
-    ensures { λ r. ⌜ ((positions : ℕ) → Bounded (graphOfTables positions (now (holders .entry)) (now (before .entry)) lasts (now (credits .entry)))
-        → Answered (graphOfTables positions (now (holders .entry)) (now (before .entry)) lasts (now (credits .entry))) (now (answer .entry)) (r .count) (r .most)) ⌝ }
+    requires { ⌜ (122 ≤ length (now counts)) × (122 ≤ length (now best)) × (length (now answer) ≤ 4096) × ((b : ℕ) → getD (now holders) b 0 < 2 ^ 61) × (3721 ≤ length (now more)) ⌝ }
+    ensures { λ r. ⌜ TablesAnswered (now (holders .entry)) (now (before .entry)) lasts (now (credits .entry)) linked (now (more .entry)) (now (answer .entry)) (r .count) (r .most) ⌝ }
 {
     counts[0] = 1;
     best[0] = 0;
@@ -65,7 +69,18 @@ fn run(
     while k < answer.len() && active != 0 {
         let to = 61 - from;
         let holds = holders[answer[k] as usize];
-        active = frontier::step(counts, best, from, to, active, holds, before, credits);
+        active = frontier::step(
+            counts,
+            best,
+            from,
+            to,
+            active,
+            holds,
+            before,
+            credits,
+            linked,
+            more,
+        );
         from = to;
         k += 1;
     }

@@ -4,15 +4,15 @@ use mathlib.Core.Path.{_≡_, sym, ap, ap₂, _∙_, subst}
 use mathlib.Core.Logic.{_⊎_, inl, inr, ⊎-elim}
 use mathlib.Core.Bool.{Bool, true, false, _&&_, _||_, not, true≢false}
 use mathlib.Core.List.{List}
-use Prim.Native.Nat.{ℕ, _+_, _-_, _*_, _/_, _%_, _≤_, _<_}
+use Prim.Native.Nat.{ℕ, _+_, _-_, _*_, _/_, _%_, _^_, _≤_, _<_}
 use native.Mathlib.Omega.{arith}
 use borrow.Author.Tests.{lt-ltb, le-ltb, ltb-true, leb-true, lt-leb, le-leb, not-true}
 use lib.Dec.{eqb, ltb, leb}
 use lib.ListN.{getD}
 use Rattle.basics.specs.Choice.{if_then_else_}
-use Rattle.basics.proofs.Tests.{and-parts, and-of, le-or-lt, if-yes, if-no, by-test}
+use Rattle.basics.proofs.Tests.{and-parts, and-of, or-left, le-or-lt, if-yes, if-no, by-test}
 use Rattle.bits.specs.Bits.{hasBit}
-use Rattle.bits.proofs.Laws.{has-none}
+use Rattle.bits.proofs.Laws.{has-none, has-ones}
 use Rattle.nodes.specs.Nodes.{IsNode, one, two, pack, leftOf, rightOf, goes, RowOf, Parts, Step, single, beside, taken, Even, PartnersOf, Free, FindsPair, Fresh, new-single, new-beside, Finds}
 
 -- ---- the two sides of a node
@@ -110,14 +110,14 @@ goes-parts F u i h =
     let l = ltb-true i 61 (q .1) in
     (p .0, leb-true 1 i (q .0), omega arith)
 
-module _ (F S : List ℕ) (x : ℕ) where
-  pub parts-positions : (a b : ℕ) → Parts F S x a b → Places a b
+module _ (F D S : List ℕ) (x : ℕ) where
+  pub parts-positions : (a b : ℕ) → Parts F D S x a b → Places a b
   parts-positions a b p =
       let l = goes-parts F (leftOf x) a (p .left) in
       let r = goes-parts F (rightOf x) b (p .right) in
       record { left-low = l .1; left-high = l .2; right-low = r .1; right-high = r .2 }
 
-  pub step-node : (y : ℕ) → Step F S x y → IsNode y
+  pub step-node : (y : ℕ) → Step F D S x y → IsNode y
   step-node y (single {a} l h) = one {a = a} (goes-parts F x a h .2)
   step-node y (beside {a} {b} p) = pack-node a b (parts-positions a b p)
 
@@ -141,30 +141,30 @@ module _ (alone : ℕ) (seen : List ℕ) (even : Even seen) where
       let right : (a * 64 + b) % 64 ≡ b = omega arith in
       ap (taken alone seen) (pack-more a b l) ∙ taken-high alone seen (a * 64 + b) big ∙ ap₂ (λ i j. hasBit (getD seen i 0) j) left right)
 
-  module _ (F S : List ℕ) (x : ℕ) where
+  module _ (F D S : List ℕ) (x : ℕ) where
     -- what is found is one step on and not taken up
-    pub fresh : (y : ℕ) → Fresh F S alone seen x y → Step F S x y × (taken alone seen y ≡ false)
+    pub fresh : (y : ℕ) → Fresh F D S alone seen x y → Step F D S x y × (taken alone seen y ≡ false)
     fresh y (new-single {a} l h n) = let p = goes-parts F x a h .2 in (single l h, taken-low alone seen a (omega arith) ∙ n)
-    fresh y (new-beside {a} {b} p n) = (beside p, taken-pair a b (parts-positions F S x a b p) ∙ n)
+    fresh y (new-beside {a} {b} p n) = (beside p, taken-pair a b (parts-positions F D S x a b p) ∙ n)
 
-    step-fresh : (y : ℕ) → Step F S x y → taken alone seen y ≡ false → Fresh F S alone seen x y
+    step-fresh : (y : ℕ) → Step F D S x y → taken alone seen y ≡ false → Fresh F D S alone seen x y
     step-fresh y (single {a} k h) t = let p = goes-parts F x a h .2 in new-single k h (sym (taken-low alone seen a (omega arith)) ∙ t)
-    step-fresh y (beside {a} {b} p) t = new-beside p (sym (taken-pair a b (parts-positions F S x a b p)) ∙ t)
+    step-fresh y (beside {a} {b} p) t = new-beside p (sym (taken-pair a b (parts-positions F D S x a b p)) ∙ t)
 
     -- where nothing is found, each node one step on is taken up
-    pub spent : (r y : ℕ) → Finds F S alone seen x r → 4096 ≤ r → IsNode x → Step F S x y → taken alone seen y ≡ true
+    pub spent : (r y : ℕ) → Finds F D S alone seen x r → 4096 ≤ r → IsNode x → Step F D S x y → taken alone seen y ≡ true
     spent r y f l n s = by-test (taken alone seen y) (λ t. t) (λ t. absurd (f .none l n y (step-fresh y s t)))
 
-pub fresh-node : (F S : List ℕ) (alone : ℕ) (seen : List ℕ) (x y : ℕ) → Fresh F S alone seen x y → IsNode y
-fresh-node F S alone seen x y (new-single {a} l h n) = one {a = a} (goes-parts F x a h .2)
-fresh-node F S alone seen x y (new-beside {a} {b} p n) = pack-node a b (parts-positions F S x a b p)
+pub fresh-node : (F D S : List ℕ) (alone : ℕ) (seen : List ℕ) (x y : ℕ) → Fresh F D S alone seen x y → IsNode y
+fresh-node F D S alone seen x y (new-single {a} l h n) = one {a = a} (goes-parts F x a h .2)
+fresh-node F D S alone seen x y (new-beside {a} {b} p n) = pack-node a b (parts-positions F D S x a b p)
 
 -- ---- a free pair, by the word of partners
 
-module _ {to shared seen a : ℕ} {parted : Bool} {m : ℕ} (p : PartnersOf to shared seen a parted m) (b : ℕ) where
-  partner-parts : hasBit m b ≡ true → (hasBit to b ≡ true) × (hasBit shared b ≡ true) × (hasBit seen b ≡ false) × ((parted || not (eqb a b)) ≡ true)
+module _ {to shared seen a own m : ℕ} (p : PartnersOf to shared seen a own m) (b : ℕ) where
+  partner-parts : hasBit m b ≡ true → (hasBit to b ≡ true) × (hasBit shared b ≡ true) × (hasBit seen b ≡ false) × ((hasBit own a || not (eqb a b)) ≡ true)
   partner-parts h =
-      let x = and-parts ((hasBit to b && hasBit shared b) && not (hasBit seen b)) (parted || not (eqb a b)) (sym (p .bits b) ∙ h) in
+      let x = and-parts ((hasBit to b && hasBit shared b) && not (hasBit seen b)) (hasBit own a || not (eqb a b)) (sym (p .bits b) ∙ h) in
       let y = and-parts (hasBit to b && hasBit shared b) (not (hasBit seen b)) (x .0) in
       let z = and-parts (hasBit to b) (hasBit shared b) (y .0) in
       (z .0, z .1, not-true (hasBit seen b) (y .1), x .1)
@@ -172,18 +172,18 @@ module _ {to shared seen a : ℕ} {parted : Bool} {m : ℕ} (p : PartnersOf to s
   pub partner-in : hasBit m b ≡ true → hasBit to b ≡ true
   partner-in h = partner-parts h .0
 
-  partner-of : hasBit to b ≡ true → hasBit shared b ≡ true → hasBit seen b ≡ false → (parted || not (eqb a b)) ≡ true → hasBit m b ≡ true
+  partner-of : hasBit to b ≡ true → hasBit shared b ≡ true → hasBit seen b ≡ false → (hasBit own a || not (eqb a b)) ≡ true → hasBit m b ≡ true
   partner-of x y z w =
       p .bits b
-      ∙ and-of ((hasBit to b && hasBit shared b) && not (hasBit seen b)) (parted || not (eqb a b))
+      ∙ and-of ((hasBit to b && hasBit shared b) && not (hasBit seen b)) (hasBit own a || not (eqb a b))
       (and-of (hasBit to b && hasBit shared b) (not (hasBit seen b)) (and-of (hasBit to b) (hasBit shared b) x y) (ap not z)) w
 
-module _ {S seen : List ℕ} {from to : ℕ} {parted : Bool} {a m : ℕ} (p : PartnersOf to (getD S a 0) (getD seen a 0) a parted m) {b : ℕ} where
-  pub partner-free : hasBit from a ≡ true → hasBit m b ≡ true → Free S seen from to parted a b
+module _ {S seen : List ℕ} {from to own a m : ℕ} (p : PartnersOf to (getD S a 0) (getD seen a 0) a own m) {b : ℕ} where
+  pub partner-free : hasBit from a ≡ true → hasBit m b ≡ true → Free S seen from to own a b
   partner-free l h = let x = partner-parts p b h in record { left = l; right = x .0; share = x .1; new = x .2; apart = x .3 }
 
   -- with an empty word there is none
-  pub free-none : m ≡ 0 → Free S seen from to parted a b → ⊥
+  pub free-none : m ≡ 0 → Free S seen from to own a b → ⊥
   free-none z f = true≢false (sym (partner-of p b (f .right) (f .share) (f .new) (f .apart)) ∙ ap (λ (x : ℕ). hasBit x b) z ∙ has-none b)
 
 -- ---- what is found from a node
@@ -193,54 +193,58 @@ node-cases x (one {a} h) = inl h
 node-cases x (two {a} {b} l m h) = inr (omega arith)
 
 -- from what is no node, nothing
-pub find-nothing : {F S : List ℕ} {alone : ℕ} {seen : List ℕ} {x : ℕ} → (IsNode x → ⊥) → Finds F S alone seen x 4096
+pub find-nothing : {F D S : List ℕ} {alone : ℕ} {seen : List ℕ} {x : ℕ} → (IsNode x → ⊥) → Finds F D S alone seen x 4096
 find-nothing f = record { some = λ l. absurd (omega arith); none = λ l n. absurd (f n) }
 
 -- a state that is not taken up
-pub find-single : {F S : List ℕ} {alone : ℕ} {seen : List ℕ} {x next : ℕ} (new : ℕ) {r : ℕ} → x ≤ 60 → RowOf F x next → ((i : ℕ) → hasBit new i ≡ (hasBit next i && not (hasBit alone i)))
-    → hasBit new r ≡ true → r < 64 → Finds F S alone seen x r
+pub find-single : {F D S : List ℕ} {alone : ℕ} {seen : List ℕ} {x next : ℕ} (new : ℕ) {r : ℕ} → x ≤ 60 → RowOf F x next → ((i : ℕ) → hasBit new i ≡ (hasBit next i && not (hasBit alone i)))
+    → hasBit new r ≡ true → r < 64 → Finds F D S alone seen x r
 find-single {alone = alone} {next = next} new {r} h row f k m =
     let p = and-parts (hasBit next r) (not (hasBit alone r)) (sym (f r) ∙ k) in
     record { some = λ l. new-single {a = r} (omega arith) (sym (row .bits r) ∙ p .0) (not-true (hasBit alone r) (p .1)); none = λ l. absurd (omega arith) }
 
 -- a pair that is not taken up, where states are
-find-pair : {F S : List ℕ} {alone : ℕ} {seen : List ℕ} {x from to : ℕ} {parted : Bool} {r : ℕ} → RowOf F (leftOf x) from → RowOf F (rightOf x) to → parted ≡ leb 64 x
-    → ((a : ℕ) → x < 64 → goes F x a ≡ true → hasBit alone a ≡ true) → FindsPair S seen from to parted r → Finds F S alone seen x r
-find-pair {F} {S} {alone} {seen} {x} {r = r} left right q gone d = record {
+find-pair : {F D S : List ℕ} {alone : ℕ} {seen : List ℕ} {x from to own r : ℕ} → RowOf F (leftOf x) from → RowOf F (rightOf x) to
+    → ((a : ℕ) → hasBit from a ≡ true → hasBit own a ≡ (leb 64 x || hasBit (getD D x 0) a)) → ((a : ℕ) → x < 64 → goes F x a ≡ true → hasBit alone a ≡ true) → FindsPair S seen from to own r → Finds F D S alone seen x r
+find-pair {F} {D} {S} {alone} {seen} {x} {r = r} left right q gone d = record {
   some = λ l.
       let p = d .some l in
       let a = p .0 in
       let b = p .1 in
       let w = p .2 in
-      subst (Fresh F S alone seen x) (sym (p .3))
-      (new-beside (record { left = sym (left .bits a) ∙ w .left; right = sym (right .bits b) ∙ w .right; share = w .share; apart = sym (ap (λ (t : Bool). t || not (eqb a b)) q) ∙ w .apart }) (w .new));
+      subst (Fresh F D S alone seen x) (sym (p .3))
+      (new-beside (record { left = sym (left .bits a) ∙ w .left; right = sym (right .bits b) ∙ w .right; share = w .share; apart = sym (ap (λ (t : Bool). t || not (eqb a b)) (q a (w .left))) ∙ w .apart }) (w .new));
   none = λ l n y. none l y;
 }
   where
-    none : 4096 ≤ r → (y : ℕ) → Fresh F S alone seen x y → ⊥
+    none : 4096 ≤ r → (y : ℕ) → Fresh F D S alone seen x y → ⊥
     none l y (new-single {a} k h e) = true≢false (sym (gone a k h) ∙ e)
-    none l y (new-beside {a} {b} p e) = d .none l a b (record { left = left .bits a ∙ p .left; right = right .bits b ∙ p .right; share = p .share; new = e; apart = ap (λ (t : Bool). t || not (eqb a b)) q ∙ p .apart })
+    none l y (new-beside {a} {b} p e) =
+        let h = left .bits a ∙ p .left in
+        d .none l a b (record { left = h; right = right .bits b ∙ p .right; share = p .share; new = e; apart = ap (λ (t : Bool). t || not (eqb a b)) (q a h) ∙ p .apart })
 
 -- from a state whose next states are taken up
-pub find-parting : {F S : List ℕ} {alone : ℕ} {seen : List ℕ} {x next : ℕ} (new : ℕ) {r : ℕ} → x ≤ 60 → RowOf F x next → ((i : ℕ) → hasBit new i ≡ (hasBit next i && not (hasBit alone i))) → new ≡ 0
-    → FindsPair S seen next next false r → Finds F S alone seen x r
-find-parting {F} {alone = alone} {x = x} {next} new h row f z d =
+pub find-parting : {F D S : List ℕ} {alone : ℕ} {seen : List ℕ} {x next : ℕ} (new : ℕ) {r : ℕ} → x ≤ 60 → RowOf F x next → ((i : ℕ) → hasBit new i ≡ (hasBit next i && not (hasBit alone i))) → new ≡ 0
+    → FindsPair S seen next next (getD D x 0) r → Finds F D S alone seen x r
+find-parting {F} {D} {alone = alone} {x = x} {next} new h row f z d =
     let low : x < 64 = omega arith in
-    find-pair (subst (λ (u : ℕ). RowOf F u next) (sym (left-low x low)) row) (subst (λ (u : ℕ). RowOf F u next) (sym (right-low x low)) row) (sym (lt-leb 64 x low)) (λ a l g. gone a g) d
+    find-pair (subst (λ (u : ℕ). RowOf F u next) (sym (left-low x low)) row) (subst (λ (u : ℕ). RowOf F u next) (sym (right-low x low)) row)
+    (λ a l. sym (ap (λ (t : Bool). t || hasBit (getD D x 0) a) (lt-leb 64 x low))) (λ a l g. gone a g) d
   where
     gone : (a : ℕ) → goes F x a ≡ true → hasBit alone a ≡ true
     gone a g =
         by-test (hasBit alone a) (λ t. t)
         (λ t. absurd (true≢false (sym (f a ∙ and-of (hasBit next a) (not (hasBit alone a)) (row .bits a ∙ g) (ap not t)) ∙ ap (λ (m : ℕ). hasBit m a) z ∙ has-none a)))
 
--- from a pair
-pub find-parted : {F S : List ℕ} {alone : ℕ} {seen : List ℕ} {x from to r : ℕ} → 64 ≤ x → RowOf F (x / 64) from → RowOf F (x % 64) to → FindsPair S seen from to true r → Finds F S alone seen x r
-find-parted {F} {x = x} {from} {to} high left right d =
-    find-pair (subst (λ (u : ℕ). RowOf F u from) (sym (left-high x high)) left) (subst (λ (u : ℕ). RowOf F u to) (sym (right-high x high)) right) (sym (le-leb 64 x high)) (λ a l. absurd (omega arith)) d
-
 -- the members of a row are positions
 pub row-positions : {F : List ℕ} {u m : ℕ} → RowOf F u m → (i : ℕ) → hasBit m i ≡ true → i ≤ 60
 row-positions {F} {u} row i h = goes-parts F u i (sym (row .bits i) ∙ h) .2
+
+-- from a pair
+pub find-parted : {F D S : List ℕ} {alone : ℕ} {seen : List ℕ} {x from to r : ℕ} → 64 ≤ x → RowOf F (x / 64) from → RowOf F (x % 64) to → FindsPair S seen from to (2 ^ 64 - 1) r → Finds F D S alone seen x r
+find-parted {F} {D} {x = x} {from} {to} high left right d =
+    find-pair (subst (λ (u : ℕ). RowOf F u from) (sym (left-high x high)) left) (subst (λ (u : ℕ). RowOf F u to) (sym (right-high x high)) right)
+    (λ a l. has-ones 64 a ∙ lt-ltb a 64 (omega (arith, row-positions left a l)) ∙ sym (or-left (leb 64 x) (hasBit (getD D x 0) a) (le-leb 64 x high))) (λ a l. absurd (omega arith)) d
 
 -- ---- a number of its own for each node
 

@@ -1,5 +1,6 @@
 -- The nodes of a search, as numbers, and the steps between them. Below 64 a node is a state: both paths are there, and have not
--- parted. From 64 on it is a * 64 + b with b ≤ a: they have parted, and one is at position a, the other at b.
+-- parted. From 64 on it is a * 64 + b with b ≤ a: they have parted, and one is at position a, the other at b. Paths have parted
+-- where they are at different positions, came to one by different links, or had parted before.
 use mathlib.Core.Path.{_≡_}
 use mathlib.Core.Bool.{Bool, true, false, _&&_, _||_, not}
 use mathlib.Core.List.{List}
@@ -32,16 +33,17 @@ goes F u i = hasBit (getD F u 0) i && (leb 1 i && ltb i 61)
 pub record RowOf (F : List ℕ) (u m : ℕ) : Type 0 where
   pub bits : (i : ℕ) → hasBit m i ≡ goes F u i
 
--- one letter on from x, the paths come to a and b, which share a letter by the rows S, and they have parted there or before
-pub record Parts (F S : List ℕ) (x a b : ℕ) : Type 0 where
+-- one letter on from x, the paths come to a and b, which share a letter by the rows S, and they have parted: before, or at different
+-- positions, or by different links, where the rows D say that two or more lead from x to a
+pub record Parts (F D S : List ℕ) (x a b : ℕ) : Type 0 where
   pub left : goes F (leftOf x) a ≡ true
   pub right : goes F (rightOf x) b ≡ true
   pub share : hasBit (getD S a 0) b ≡ true
-  pub apart : (leb 64 x || not (eqb a b)) ≡ true
+  pub apart : ((leb 64 x || hasBit (getD D x 0) a) || not (eqb a b)) ≡ true
 
-pub data Step (F S : List ℕ) (x : ℕ) : ℕ → Type 0 where
-  single : {a : ℕ} → x < 64 → goes F x a ≡ true → Step F S x a
-  beside : {a b : ℕ} → Parts F S x a b → Step F S x (pack a b)
+pub data Step (F D S : List ℕ) (x : ℕ) : ℕ → Type 0 where
+  single : {a : ℕ} → x < 64 → goes F x a ≡ true → Step F D S x a
+  beside : {a b : ℕ} → Parts F D S x a b → Step F D S x (pack a b)
 
 -- ---- which nodes are taken up: the states of a set, and b in row a for the pair of a and b
 
@@ -53,32 +55,32 @@ pub record Even (seen : List ℕ) : Type 0 where
   pub size : length seen ≡ 61
   pub same : (a b : ℕ) → a ≤ 60 → b ≤ 60 → hasBit (getD seen a 0) b ≡ hasBit (getD seen b 0) a
 
--- a of the set `from` and b of the set `to`, that share a letter, are not taken up, and differ unless the paths have parted before
-pub record Free (S seen : List ℕ) (from to : ℕ) (parted : Bool) (a b : ℕ) : Type 0 where
+-- a of the set `from` and b of the set `to`, that share a letter, are not taken up, and differ unless a is of the set `own`
+pub record Free (S seen : List ℕ) (from to own a b : ℕ) : Type 0 where
   pub left : hasBit from a ≡ true
   pub right : hasBit to b ≡ true
   pub share : hasBit (getD S a 0) b ≡ true
   pub new : hasBit (getD seen a 0) b ≡ false
-  pub apart : (parted || not (eqb a b)) ≡ true
+  pub apart : (hasBit own a || not (eqb a b)) ≡ true
 
 -- m is the set of the partners b of a, by its row of shared letters and its row of those taken up
-pub record PartnersOf (to shared seen a : ℕ) (parted : Bool) (m : ℕ) : Type 0 where
-  pub bits : (b : ℕ) → hasBit m b ≡ (((hasBit to b && hasBit shared b) && not (hasBit seen b)) && (parted || not (eqb a b)))
+pub record PartnersOf (to shared seen a own m : ℕ) : Type 0 where
+  pub bits : (b : ℕ) → hasBit m b ≡ (((hasBit to b && hasBit shared b) && not (hasBit seen b)) && (hasBit own a || not (eqb a b)))
 
 -- r is the node of such a pair, or 4096 where there is none
-pub record FindsPair (S seen : List ℕ) (from to : ℕ) (parted : Bool) (r : ℕ) : Type 0 where
-  pub some : r < 4096 → (a : ℕ) × (b : ℕ) × Free S seen from to parted a b × (r ≡ pack a b)
-  pub none : 4096 ≤ r → (a b : ℕ) → Free S seen from to parted a b → ⊥
+pub record FindsPair (S seen : List ℕ) (from to own r : ℕ) : Type 0 where
+  pub some : r < 4096 → (a : ℕ) × (b : ℕ) × Free S seen from to own a b × (r ≡ pack a b)
+  pub none : 4096 ≤ r → (a b : ℕ) → Free S seen from to own a b → ⊥
 
 -- a node one step on from x that is not taken up
-pub data Fresh (F S : List ℕ) (alone : ℕ) (seen : List ℕ) (x : ℕ) : ℕ → Type 0 where
-  new-single : {a : ℕ} → x < 64 → goes F x a ≡ true → hasBit alone a ≡ false → Fresh F S alone seen x a
-  new-beside : {a b : ℕ} → Parts F S x a b → hasBit (getD seen a 0) b ≡ false → Fresh F S alone seen x (pack a b)
+pub data Fresh (F D S : List ℕ) (alone : ℕ) (seen : List ℕ) (x : ℕ) : ℕ → Type 0 where
+  new-single : {a : ℕ} → x < 64 → goes F x a ≡ true → hasBit alone a ≡ false → Fresh F D S alone seen x a
+  new-beside : {a b : ℕ} → Parts F D S x a b → hasBit (getD seen a 0) b ≡ false → Fresh F D S alone seen x (pack a b)
 
 -- r is such a node, or 4096 where there is none
-pub record Finds (F S : List ℕ) (alone : ℕ) (seen : List ℕ) (x r : ℕ) : Type 0 where
-  pub some : r < 4096 → Fresh F S alone seen x r
-  pub none : 4096 ≤ r → IsNode x → (y : ℕ) → Fresh F S alone seen x y → ⊥
+pub record Finds (F D S : List ℕ) (alone : ℕ) (seen : List ℕ) (x r : ℕ) : Type 0 where
+  pub some : r < 4096 → Fresh F D S alone seen x r
+  pub none : 4096 ≤ r → IsNode x → (y : ℕ) → Fresh F D S alone seen x y → ⊥
 
 -- ---- taking up: y is taken up besides, and the states taken up are now r
 pub record TakenUp (seen seen′ : List ℕ) (alone y r : ℕ) : Type 0 where

@@ -1,6 +1,6 @@
 // The nodes of a search and the steps between them. A node is two paths side by side over one text, in the graph of a pattern's
 // positions, as a number: below 64 a state, where both paths are and have not parted; a * 64 + b, with 1 <= b <= a, where they
-// have parted and are now at a and b.
+// have parted and are now at a and b. Paths part where they come to different positions, or to one by different links.
 ghost use mathlib.Core.Path.{_≡_};
 ghost use mathlib.Core.Bool.{true, not, _&&_, _||_};
 ghost use Prim.Native.Nat.{ℕ, _≤_, _<_};
@@ -14,12 +14,13 @@ pub const NONE: usize = 4096;
 // A node one step on from x that is not taken up. Where x is no node there is none.
 pub fn next_new<'a>(
     follow: &'a [u64; 61],
+    doubles: &'a [u64; 61],
     shares: &'a [u64; 61],
     seen: &'a [u64; 61],
     alone: u64,
     x: usize,
 ) -> usize
-    ensures { λ r. ⌜ Finds (now (follow .entry)) (now (shares .entry)) alone (now (seen .entry)) x r ⌝ }
+    ensures { λ r. ⌜ Finds (now (follow .entry)) (now (doubles .entry)) (now (shares .entry)) alone (now (seen .entry)) x r ⌝ }
 {
     if x <= 60 {
         let next = row(follow, x);
@@ -27,7 +28,7 @@ pub fn next_new<'a>(
         if new != 0 {
             return bits::lowest(new);
         }
-        return new_pair(shares, seen, next, next, false);
+        return new_pair(shares, seen, next, next, doubles[x]);
     }
     let a = x / 64;
     let b = x % 64;
@@ -40,7 +41,7 @@ pub fn next_new<'a>(
     if 60 < b {
         return NONE;
     }
-    new_pair(shares, seen, row(follow, a), row(follow, b), true)
+    new_pair(shares, seen, row(follow, a), row(follow, b), u64::MAX)
 }
 
 // Takes the node y up besides: a state in the set of states, which it gives, a pair in both of its rows, so that row a has b and
@@ -67,21 +68,15 @@ fn row(follow: &[u64; 61], u: usize) -> u64
     bits::intersection(follow[u], bits::span(1, 61))
 }
 
-// A pair that is not taken up, of a position of `from` and one of `to`.
-fn new_pair<'a>(
-    shares: &'a [u64; 61],
-    seen: &'a [u64; 61],
-    from: u64,
-    to: u64,
-    parted: bool,
-) -> usize
+// A pair that is not taken up, of a position of `from` and one of `to`; of a position and itself only where `own` has it.
+fn new_pair<'a>(shares: &'a [u64; 61], seen: &'a [u64; 61], from: u64, to: u64, own: u64) -> usize
     requires { ⌜ ((i : ℕ) → hasBit from i ≡ true → i ≤ 60) × ((i : ℕ) → hasBit to i ≡ true → i ≤ 60) ⌝ }
-    ensures { λ r. ⌜ FindsPair (now (shares .entry)) (now (seen .entry)) from to parted r ⌝ }
+    ensures { λ r. ⌜ FindsPair (now (shares .entry)) (now (seen .entry)) from to own r ⌝ }
 {
     let mut left = from;
     while left != 0 {
         let a = bits::lowest(left);
-        let new = partners(to, shares[a], seen[a], a, parted);
+        let new = partners(to, shares[a], seen[a], a, own);
         if new != 0 {
             return pair(a, bits::lowest(new));
         }
@@ -90,15 +85,15 @@ fn new_pair<'a>(
     NONE
 }
 
-// Of the set `to`, the positions that share a letter with a and are not seen beside it.
-fn partners(to: u64, shared: u64, seen: u64, a: usize, parted: bool) -> u64
+// Of the set `to`, the positions that share a letter with a and are not seen beside it; a itself only where `own` has it.
+fn partners(to: u64, shared: u64, seen: u64, a: usize, own: u64) -> u64
     requires { ⌜ a < 64 ⌝ }
-    ensures { λ r. ⌜ PartnersOf to shared seen a parted r ⌝ }
+    ensures { λ r. ⌜ PartnersOf to shared seen a own r ⌝ }
 {
     others(
         bits::difference(bits::intersection(to, shared), seen),
         a,
-        parted,
+        bits::has(own, a),
     )
 }
 

@@ -7,18 +7,21 @@ use native.Mathlib.Nat.{add-zero}
 use native.Mathlib.Numerals.{add-one}
 use native.Mathlib.Omega.{arith}
 use lib.Dec.{eqb}
-use lib.ListN.{length, getD, length-append}
+use lib.ListN.{length, length-append}
+use Rattle.basics.specs.Choice.{if_then_else_}
+use Rattle.basics.proofs.Tests.{or-parts}
 use Rattle.bits.specs.Bits.{hasBit}
 use Rattle.alphabet.specs.Alphabet.{someLetter}
 use Rattle.pattern.specs.Parts.{Atom, holds, Repeat, skips, loops, Part, letter, again}
-use Rattle.pattern.specs.Positions.{isFirst, isLast, follows}
+use Rattle.pattern.specs.Positions.{isFirst, isLast, links}
 use Rattle.pattern.specs.Refusals.{someReversed, anyReversed, anyEmpty}
 use Rattle.parsed.specs.declared.Parsed.{Parsed}
-use Rattle.links.specs.Rows.{kept, Marks, Adds, Linked}
+use Rattle.links.specs.Rows.{kept, Marks, Gains, LinksMore}
 use Rattle.parsed.specs.Tables.{Stored}
 use Rattle.parsed.specs.Parsed.{Shape, shapeOf, Memory, memory, Has, nothingRead, Either, Joins}
 use Rattle.parsed.proofs.Shapes.{joinedShape, eitherShape, noShape}
-use Rattle.links.proofs.Linking.{marks-if, marks-none, adds-none, adds-both, adds-linked}
+use Rattle.links.proofs.Linking.{marks-if, marks-none}
+use Rattle.links.proofs.Counting.{gains-none, gains-both, gains-linked}
 
 -- ---- nothing, and one atom
 
@@ -30,21 +33,23 @@ has-nothing at n m empty = record {
   lasts = marks-none;
   reversed = refl;
   hollow = refl;
-  adds = adds-none (m .rows);
+  links = gains-none (m .rows) (m .more);
+  single = λ e. refl;
   stores = λ al l st. subst (λ (x : List Atom). Stored x (m .sets) (m .credits)) (sym (append-nil al)) st;
 }
 
-pub has-letter : (n : ℕ) (rows sets credits sets′ credits′ : List ℕ) (x : Atom) (at own : ℕ) (reversed hollow : Bool) → Marks own (λ b. eqb b (n + 1))
+pub has-letter : (n : ℕ) (rows more sets credits sets′ credits′ : List ℕ) (x : Atom) (at own : ℕ) (reversed hollow : Bool) → Marks own (λ b. eqb b (n + 1))
     → reversed ≡ someReversed (x .items) → hollow ≡ not (someLetter (holds x)) → ((al : List Atom) → length al ≡ n → Stored al sets credits → Stored (al ++ (x ∷ [])) sets′ credits′)
-    → Has n (memory rows sets credits) (memory rows sets′ credits′) (shapeOf (letter x)) record { good = true; at = at; n = n + 1; empty = false; firsts = own; lasts = own; reversed = reversed; hollow = hollow }
-has-letter n rows sets credits sets′ credits′ x at own reversed hollow m turned empty stored = record {
+    → Has n (memory rows more sets credits) (memory rows more sets′ credits′) (shapeOf (letter x)) record { good = true; at = at; n = n + 1; empty = false; firsts = own; lasts = own; reversed = reversed; hollow = hollow; doubled = false }
+has-letter n rows more sets credits sets′ credits′ x at own reversed hollow m turned empty stored = record {
   count = refl;
   empty = refl;
   firsts = mine;
   lasts = mine;
   reversed = turned ∙ sym (or-false (someReversed (x .items)));
   hollow = empty ∙ sym (or-false (not (someLetter (holds x))));
-  adds = adds-none rows;
+  links = gains-none rows more;
+  single = λ e. refl;
   stores = stored;
 }
   where
@@ -53,32 +58,35 @@ has-letter n rows sets credits sets′ credits′ x at own reversed hollow m tur
 
 -- ---- a repeat
 
-module _ (n : ℕ) (m : Memory) (rows sets credits : List ℕ) (p : Part) (a : Parsed) (ha : Has n m (memory rows sets credits) (shapeOf p) a) where
+module _ (n : ℕ) (m : Memory) (rows more sets credits : List ℕ) (p : Part) (a : Parsed) (ha : Has n m (memory rows more sets credits) (shapeOf p) a) where
   -- the result at another place
-  pub has-at : (at : ℕ) → Has n m (memory rows sets credits) (shapeOf p) record { good = a .good; at = at; n = a .n; empty = a .empty; firsts = a .firsts; lasts = a .lasts; reversed = a .reversed; hollow = a .hollow }
-  has-at at = record { count = ha .count; empty = ha .empty; firsts = ha .firsts; lasts = ha .lasts; reversed = ha .reversed; hollow = ha .hollow; adds = ha .adds; stores = ha .stores }
+  pub has-at : (at : ℕ) → Has n m (memory rows more sets credits) (shapeOf p) record { good = a .good; at = at; n = a .n; empty = a .empty; firsts = a .firsts; lasts = a .lasts; reversed = a .reversed; hollow = a .hollow; doubled = a .doubled }
+  has-at at = record { count = ha .count; empty = ha .empty; firsts = ha .firsts; lasts = ha .lasts; reversed = ha .reversed; hollow = ha .hollow; links = ha .links; single = ha .single; stores = ha .stores }
 
-  pub has-again : (k : Repeat) (at : ℕ) (skip loop : Bool) → skips k ≡ skip → loops k ≡ loop → (back : ℕ) (linked : List ℕ)
-      → ((b : ℕ) → hasBit back b ≡ (hasBit 0 b || (loop && hasBit (a .lasts) b))) → Linked rows back (a .firsts) linked
-      → Has n m (memory linked sets credits) (shapeOf (again k p)) record { good = a .good; at = at; n = a .n; empty = skip || a .empty; firsts = a .firsts; lasts = a .lasts; reversed = a .reversed; hollow = a .hollow }
-  has-again k at skip loop e f back linked j l = record {
+  pub has-again : (k : Repeat) (at : ℕ) (skip loop : Bool) → skips k ≡ skip → loops k ≡ loop → (back : ℕ) (rows′ more′ : List ℕ) (second : Bool)
+      → ((b : ℕ) → hasBit back b ≡ (hasBit 0 b || (loop && hasBit (a .lasts) b))) → LinksMore rows more back (a .firsts) rows′ more′ second
+      → Has n m (memory rows′ more′ sets credits) (shapeOf (again k p)) record { good = a .good; at = at; n = a .n; empty = skip || a .empty; firsts = a .firsts; lasts = a .lasts; reversed = a .reversed; hollow = a .hollow; doubled = a .doubled || second }
+  has-again k at skip loop e f back rows′ more′ second j l = record {
     count = ha .count;
     empty = ap₂ _||_ (sym e) (ha .empty);
     firsts = ha .firsts;
     lasts = ha .lasts;
     reversed = ha .reversed;
     hollow = ha .hollow;
-    adds = adds-both (m .rows) rows linked (λ x y. follows n p x y) (λ x y. loops k && (isLast n p x && isFirst n p y)) (ha .adds) round;
+    links =
+        gains-both (m .rows) (m .more) rows more rows′ more′ (λ x y. links n p x y) (λ x y. if loops k && (isLast n p x && isFirst n p y) then 1 else 0) (ha .links)
+        (subst (λ (g : ℕ → ℕ → ℕ). Gains rows more g rows′ more′) (λ i x y. round x y i)
+        (gains-linked rows more rows′ more′ back (a .firsts) second (λ x. loop && isLast n p x) (λ y. isFirst n p y) l back-marks (ha .firsts)));
+    single = λ d. let parts = or-parts (a .doubled) second d in l .single (parts .1) ∙ ha .single (parts .0);
     stores = ha .stores;
   }
     where
       back-marks : Marks back (λ x. loop && isLast n p x)
       back-marks = marks-if back 0 (a .lasts) (λ x. false) (λ x. isLast n p x) loop j marks-none (ha .lasts)
 
-      round : Adds rows (λ x y. loops k && (isLast n p x && isFirst n p y)) linked
+      round : (x y : ℕ) → _≡_ {A = ℕ} (if (loop && isLast n p x) && isFirst n p y then 1 else 0) (if loops k && (isLast n p x && isFirst n p y) then 1 else 0)
       round x y =
-          adds-linked rows linked back (a .firsts) (λ x. loop && isLast n p x) (λ y. isFirst n p y) l back-marks (ha .firsts) x y
-          ∙ ap (λ (u : Bool). hasBit (getD rows x 0) y || ((kept x && kept y) && u))
+          ap {B = ℕ} (λ (u : Bool). if u then 1 else 0)
           (and-assoc loop (isLast n p x) (isFirst n p y) ∙ ap (λ (u : Bool). u && (isLast n p x && isFirst n p y)) (sym f))
 
 -- ---- a part and one after it
@@ -107,6 +115,9 @@ module _ (n : ℕ) (m m₁ m₂ : Memory) (p q : Shape) (a b : Parsed) (ha : Has
       subst (λ (x : List Atom). Stored x (m₂ .sets) (m₂ .credits)) (append-assoc al (p .atoms) (q .atoms))
       (hb .stores (al ++ p .atoms) (omega (arith, l, ha .count, length-append al (p .atoms))) (ha .stores al l st))
 
+  single-both : (a .doubled ≡ false) × (b .doubled ≡ false) → m₂ .more ≡ m .more
+  single-both d = hb .single (d .1) ∙ ha .single (d .0)
+
   pub has-either : (r : Parsed) → Either a b r → Has n m m₂ (eitherShape p q) r
   has-either r e = record {
     count = e .follows .count ∙ counted;
@@ -115,12 +126,13 @@ module _ (n : ℕ) (m m₁ m₂ : Memory) (p q : Shape) (a b : Parsed) (ha : Has
     lasts = marks-if (r .lasts) (a .lasts) (b .lasts) (p .last n) (q .last (n + length (p .atoms))) true (e .lasts) (ha .lasts) (after .lasts);
     reversed = e .follows .reversed ∙ turned;
     hollow = e .follows .hollow ∙ hollowed;
-    adds = adds-both (m .rows) (m₁ .rows) (m₂ .rows) (p .follow n) (q .follow (n + length (p .atoms))) (ha .adds) (after .adds);
+    links = gains-both (m .rows) (m .more) (m₁ .rows) (m₁ .more) (m₂ .rows) (m₂ .more) (p .links n) (q .links (n + length (p .atoms))) (ha .links) (after .links);
+    single = λ d. single-both (or-parts (a .doubled) (b .doubled) (sym (e .doubled) ∙ d));
     stores = stored;
   }
 
-  pub has-joined : (rows : List ℕ) (r : Parsed) → Joins (m₂ .rows) rows a b r → Has n m (memory rows (m₂ .sets) (m₂ .credits)) (joinedShape p q) r
-  has-joined rows r e = record {
+  pub has-joined : (rows more : List ℕ) (r : Parsed) → Joins (m₂ .rows) (m₂ .more) rows more a b r → Has n m (memory rows more (m₂ .sets) (m₂ .credits)) (joinedShape p q) r
+  has-joined rows more r e = record {
     count = e .follows .count ∙ counted;
     empty = e .empty ∙ ap₂ _&&_ (ha .empty) (hb .empty);
     firsts =
@@ -131,9 +143,12 @@ module _ (n : ℕ) (m m₁ m₂ : Memory) (p q : Shape) (a b : Parsed) (ha : Has
         (marks-if (r .lasts) (b .lasts) (a .lasts) (q .last (n + length (p .atoms))) (p .last n) (b .empty) (e .lasts) (after .lasts) (ha .lasts));
     reversed = e .follows .reversed ∙ turned;
     hollow = e .follows .hollow ∙ hollowed;
-    adds =
-        adds-both (m .rows) (m₁ .rows) rows (p .follow n) (λ x y. q .follow (n + length (p .atoms)) x y || (p .last n x && q .first (n + length (p .atoms)) y)) (ha .adds)
-        (adds-both (m₁ .rows) (m₂ .rows) rows (q .follow (n + length (p .atoms))) (λ x y. p .last n x && q .first (n + length (p .atoms)) y) (after .adds)
-        (adds-linked (m₂ .rows) rows (a .lasts) (b .firsts) (p .last n) (q .first (n + length (p .atoms))) (e .links) (ha .lasts) (after .firsts)));
+    links =
+        gains-both (m .rows) (m .more) (m₁ .rows) (m₁ .more) rows more (p .links n) (λ x y. q .links (n + length (p .atoms)) x y + (if p .last n x && q .first (n + length (p .atoms)) y then 1 else 0)) (ha .links)
+        (gains-both (m₁ .rows) (m₁ .more) (m₂ .rows) (m₂ .more) rows more (q .links (n + length (p .atoms))) (λ x y. if p .last n x && q .first (n + length (p .atoms)) y then 1 else 0) (after .links)
+        (gains-linked (m₂ .rows) (m₂ .more) rows more (a .lasts) (b .firsts) (e .second) (p .last n) (q .first (n + length (p .atoms))) (e .links) (ha .lasts) (after .firsts)));
+    single = λ d.
+        let parts = or-parts (a .doubled || b .doubled) (e .second) (sym (e .doubled) ∙ d) in
+        e .links .single (parts .1) ∙ single-both (or-parts (a .doubled) (b .doubled) (parts .0));
     stores = stored;
   }

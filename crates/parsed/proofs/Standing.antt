@@ -20,7 +20,7 @@ use Rattle.atoms.specs.declared.Lettered.{Lettered}
 use Rattle.atoms.specs.Atoms.{ReadsAtom}
 use Rattle.places.proofs.Places.{next-within}
 use Rattle.parsed.specs.declared.Parsed.{Parsed}
-use Rattle.links.specs.Rows.{Marks, Linked}
+use Rattle.links.specs.Rows.{Marks, LinksMore}
 use Rattle.parsed.specs.Parsed.{Shape, shapeOf, Memory, memory, Has, StandsFor, Stands, Letters, closedRead, Repeats}
 use Rattle.parsed.proofs.Storing.{Filled, Full, one-stored}
 use Rattle.parsed.proofs.Joining.{has-letter, has-at, has-again}
@@ -37,9 +37,9 @@ stands-not s at n m m′ good x rest r e h = record { same = e ∙ sym h; gives 
 
 pub letter-stands : (s : List ℕ) (at n own : ℕ) (sets credits sets′ credits′ : List ℕ) (R : Read) (l : Lettered) → ReadsAtom s at R l → l .good ≡ true → n ≤ at → Marks own (λ b. eqb b (n + 1))
     → length credits ≡ 61 → Filled (n + 1) (l .set) (l .credit) sets credits sets′ credits′ ⊎ Full (n + 1) sets credits sets′ credits′
-    → Letters s at n sets credits sets′ credits′ R record { good = true; at = l .at; n = n + 1; empty = false; firsts = own; lasts = own; reversed = l .reversed; hollow = l .hollow }
-letter-stands s at n own sets credits sets′ credits′ R l w g few m long put rows =
-    let made : Parsed = record { good = true; at = l .at; n = n + 1; empty = false; firsts = own; lasts = own; reversed = l .reversed; hollow = l .hollow } in
+    → Letters s at n sets credits sets′ credits′ R record { good = true; at = l .at; n = n + 1; empty = false; firsts = own; lasts = own; reversed = l .reversed; hollow = l .hollow; doubled = false }
+letter-stands s at n own sets credits sets′ credits′ R l w g few m long put rows more =
+    let made : Parsed = record { good = true; at = l .at; n = n + 1; empty = false; firsts = own; lasts = own; reversed = l .reversed; hollow = l .hollow; doubled = false } in
     let on = w .on g in
     let is = w .has g in
     record {
@@ -50,8 +50,8 @@ letter-stands s at n own sets credits sets′ credits′ R l w g few m long put 
         few = omega arith;
         goes = w .rest g;
         has =
-            subst (λ (p : Part). Has n (memory rows sets credits) (memory rows sets′ credits′) (shapeOf p) made) (sym (is .part))
-            (has-letter n rows sets credits sets′ credits′ (is .what) (l .at) own (l .reversed) (l .hollow) m (is .turned) (is .hollow)
+            subst (λ (p : Part). Has n (memory rows more sets credits) (memory rows more sets′ credits′) (shapeOf p) made) (sym (is .part))
+            (has-letter n rows more sets credits sets′ credits′ (is .what) (l .at) own (l .reversed) (l .hollow) m (is .turned) (is .hollow)
             (λ al e st. one-stored al (is .what) (n + 1) (l .set) (l .credit) sets credits sets′ credits′ long (omega arith) put (is .has) (is .credit) (is .small) st));
       };
     }
@@ -79,7 +79,7 @@ repeated-on R plus g e = ap₂ (repeatedBy R) g e
 repeated-none : (R : Read) (b : ℕ) → ((k : Repeat) → b ≡ byteOf k → ⊥) → repeatedBy R true b ≡ R
 repeated-none R b d = simp (ne-eqb b (code "?") (d optional), ne-eqb b (code "*") (d star), ne-eqb b (code "+") (d plus))
 
-module _ (s : List ℕ) (at n : ℕ) (m : Memory) (rows sets credits : List ℕ) (R : Read) (p : Parsed) (w : Stands s at n m (memory rows sets credits) R p) where
+module _ (s : List ℕ) (at n : ℕ) (m : Memory) (rows more sets credits : List ℕ) (R : Read) (p : Parsed) (w : Stands s at n m (memory rows more sets credits) R p) where
   -- a test of what comes next
   test-same : (test : List ℕ → Bool) → (R .good && test (R .rest)) ≡ (p .good && test (drop (p .at) s))
   test-same test =
@@ -87,24 +87,24 @@ module _ (s : List ℕ) (at n : ℕ) (m : Memory) (rows sets credits : List ℕ)
       ∙ and-when (p .good) (test (R .rest)) (test (drop (p .at) s)) (λ g. ap test (w .gives g .goes))
 
   -- the result, one byte further
-  stands-next : (part : Part) (rows′ : List ℕ) (r : Parsed) → p .good ≡ true → p .at < length s → r .good ≡ p .good → r .at ≡ p .at + 1 → r .n ≡ p .n
-      → (Has n m (memory rows sets credits) (shapeOf (R .part)) p → Has n m (memory rows′ sets credits) (shapeOf part) r)
-      → Stands s at n m (memory rows′ sets credits) (read part (drop 1 (R .rest))) r
-  stands-next part rows′ r g l same place count has =
+  stands-next : (part : Part) (rows′ more′ : List ℕ) (r : Parsed) → p .good ≡ true → p .at < length s → r .good ≡ p .good → r .at ≡ p .at + 1 → r .n ≡ p .n
+      → (Has n m (memory rows more sets credits) (shapeOf (R .part)) p → Has n m (memory rows′ more′ sets credits) (shapeOf part) r)
+      → Stands s at n m (memory rows′ more′ sets credits) (read part (drop 1 (R .rest))) r
+  stands-next part rows′ more′ r g l same place count has =
       let v = w .gives g in
       record {
         same = same ∙ g;
         gives = λ _. record { on = omega arith; within = omega arith; few = omega arith; goes = ap (drop 1) (v .goes) ∙ drop-drop 1 (p .at) s ∙ ap (λ (k : ℕ). drop k s) (sym place); has = has (v .has) };
       }
 
-  pub again-stands : (k : Repeat) (skip loop : Bool) → skips k ≡ skip → loops k ≡ loop → p .good ≡ true → p .at < length s → (back : ℕ) (linked : List ℕ)
-      → ((b : ℕ) → hasBit back b ≡ (hasBit 0 b || (loop && hasBit (p .lasts) b))) → Linked rows back (p .firsts) linked
-      → Stands s at n m (memory linked sets credits) (read (again k (R .part)) (drop 1 (R .rest)))
-      record { good = p .good; at = p .at + 1; n = p .n; empty = skip || p .empty; firsts = p .firsts; lasts = p .lasts; reversed = p .reversed; hollow = p .hollow }
-  again-stands k skip loop e f g l back linked j k′ =
-      stands-next (again k (R .part)) linked _ g l refl refl refl (λ h. has-again n m rows sets credits (R .part) p h k (p .at + 1) skip loop e f back linked j k′)
+  pub again-stands : (k : Repeat) (skip loop : Bool) → skips k ≡ skip → loops k ≡ loop → p .good ≡ true → p .at < length s → (back : ℕ) (rows′ more′ : List ℕ) (second : Bool)
+      → ((b : ℕ) → hasBit back b ≡ (hasBit 0 b || (loop && hasBit (p .lasts) b))) → LinksMore rows more back (p .firsts) rows′ more′ second
+      → Stands s at n m (memory rows′ more′ sets credits) (read (again k (R .part)) (drop 1 (R .rest)))
+      record { good = p .good; at = p .at + 1; n = p .n; empty = skip || p .empty; firsts = p .firsts; lasts = p .lasts; reversed = p .reversed; hollow = p .hollow; doubled = p .doubled || second }
+  again-stands k skip loop e f g l back rows′ more′ second j linked =
+      stands-next (again k (R .part)) rows′ more′ _ g l refl refl refl (λ h. has-again n m rows more sets credits (R .part) p h k (p .at + 1) skip loop e f back rows′ more′ second j linked)
 
-  pub repeat-bad : not (p .good) ≡ true → Stands s at n m (memory rows sets credits) (repeated R) p
+  pub repeat-bad : not (p .good) ≡ true → Stands s at n m (memory rows more sets credits) (repeated R) p
   repeat-bad e = stands-as s at n m _ p (ap (λ (g : Bool). repeatedBy R g (peek (R .rest))) (sym (w .same) ∙ not-true (p .good) e)) w
 
   module _ (b : ℕ) (next-is : b ≡ peek (drop (p .at) s)) where
@@ -115,7 +115,7 @@ module _ (s : List ℕ) (at n : ℕ) (m : Memory) (rows sets credits : List ℕ)
       same-byte : peek (R .rest) ≡ b
       same-byte = ap peek (w .gives good .goes) ∙ sym next-is
 
-      pub repeat-none : (b ≡ code "?" → ⊥) → (b ≡ code "*" → ⊥) → (b ≡ code "+" → ⊥) → Stands s at n m (memory rows sets credits) (repeated R) p
+      pub repeat-none : (b ≡ code "?" → ⊥) → (b ≡ code "*" → ⊥) → (b ≡ code "+" → ⊥) → Stands s at n m (memory rows more sets credits) (repeated R) p
       repeat-none x y z = stands-as s at n m _ p (ap₂ (repeatedBy R) (sym (w .same) ∙ good) same-byte ∙ repeated-none R b none) w
         where
           none : (k : Repeat) → b ≡ byteOf k → ⊥
@@ -123,8 +123,8 @@ module _ (s : List ℕ) (at n : ℕ) (m : Memory) (rows sets credits : List ℕ)
           none star = y
           none plus = z
 
-      pub repeat-on : (k : Repeat) (rows′ : List ℕ) (r : Parsed) → b ≡ byteOf k → 0 < b → Repeats (skips k) (loops k) rows rows′ p r → Stands s at n m (memory rows′ sets credits) (repeated R) r
-      repeat-on k rows′ r e h repeats =
+      pub repeat-on : (k : Repeat) (rows′ more′ : List ℕ) (r : Parsed) → b ≡ byteOf k → 0 < b → Repeats (skips k) (loops k) rows more rows′ more′ p r → Stands s at n m (memory rows′ more′ sets credits) (repeated R) r
+      repeat-on k rows′ more′ r e h repeats =
           stands-as s at n m _ r (repeated-on R k (sym (w .same) ∙ good) (same-byte ∙ e)) (repeats s at n m sets credits R k refl refl good (next-within s (p .at) (omega arith)) w)
 
     closed-is : (t : Bool) → eqb b (code ")") ≡ t → closedRead R ≡ (if p .good && t then read (R .part) (drop 1 (R .rest)) else broken)
@@ -132,20 +132,20 @@ module _ (s : List ℕ) (at n : ℕ) (m : Memory) (rows sets credits : List ℕ)
         ap (λ (u : Bool). if u then read (R .part) (drop 1 (R .rest)) else broken)
         (test-same (λ l. eqb (peek l) (code ")")) ∙ ap (λ (u : Bool). p .good && u) (ap (λ (x : ℕ). eqb x (code ")")) (sym next-is) ∙ e))
 
-    pub close-not : (r : Parsed) → r .good ≡ false → (b ≡ code ")" → ⊥) → Stands s at n m (memory rows sets credits) (closedRead R) r
+    pub close-not : (r : Parsed) → r .good ≡ false → (b ≡ code ")" → ⊥) → Stands s at n m (memory rows more sets credits) (closedRead R) r
     close-not r e d =
         stands-as s at n m _ r
         (closed-is false (ne-eqb b (code ")") d) ∙ ap (λ (u : Bool). if u then read (R .part) (drop 1 (R .rest)) else broken) (and-false (p .good)))
         (stands-not s at n m _ false (shapeOf (broken .part)) (broken .rest) r e refl)
 
-    pub close-stands : b ≡ code ")" → Stands s at n m (memory rows sets credits) (closedRead R)
-        record { good = p .good; at = p .at + 1; n = p .n; empty = p .empty; firsts = p .firsts; lasts = p .lasts; reversed = p .reversed; hollow = p .hollow }
+    pub close-stands : b ≡ code ")" → Stands s at n m (memory rows more sets credits) (closedRead R)
+        record { good = p .good; at = p .at + 1; n = p .n; empty = p .empty; firsts = p .firsts; lasts = p .lasts; reversed = p .reversed; hollow = p .hollow; doubled = p .doubled }
     close-stands e =
         let is = closed-is true (eq-eqb b (code ")") e) in
         by-test (p .good)
         (λ g.
         stands-as s at n m _ _ (is ∙ ap (λ (u : Bool). if u && true then read (R .part) (drop 1 (R .rest)) else broken) g)
-        (stands-next (R .part) rows _ g (next-within s (p .at) (omega arith)) refl refl refl (λ h. has-at n m rows sets credits (R .part) p h (p .at + 1))))
+        (stands-next (R .part) rows more _ g (next-within s (p .at) (omega arith)) refl refl refl (λ h. has-at n m rows more sets credits (R .part) p h (p .at + 1))))
         (λ g.
         stands-as s at n m _ _ (is ∙ ap (λ (u : Bool). if u && true then read (R .part) (drop 1 (R .rest)) else broken) g)
         (stands-not s at n m _ false (shapeOf (broken .part)) (broken .rest) _ g refl))

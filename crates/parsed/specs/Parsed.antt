@@ -11,34 +11,35 @@ use Rattle.basics.specs.Choice.{if_then_else_}
 use Rattle.bits.specs.Bits.{hasBit}
 use Rattle.pattern.specs.Parts.{Atom, Repeat, skips, loops, Part, again}
 use Rattle.pattern.specs.Grammar.{Read, read, broken, peek}
-use Rattle.pattern.specs.Positions.{atoms, canBeEmpty, isFirst, isLast, follows}
+use Rattle.pattern.specs.Positions.{atoms, canBeEmpty, isFirst, isLast, links}
 use Rattle.pattern.specs.Refusals.{anyReversed, anyEmpty}
-use Rattle.links.specs.Rows.{Marks, Adds, Linked}
+use Rattle.links.specs.Rows.{Marks, Gains, LinksMore}
 use Rattle.parsed.specs.declared.Parsed.{Parsed}
 use Rattle.parsed.specs.Tables.{Stored}
 
 -- ---- a part, parsed
 
 -- what parsing keeps of a part: its atoms, whether it can be empty, and with n positions to its left its firsts, its lasts and
--- what may follow
+-- its links
 pub record Shape : Type 0 where
   pub atoms : List Atom
   pub empty : Bool
   pub first : ℕ → ℕ → Bool
   pub last : ℕ → ℕ → Bool
-  pub follow : ℕ → ℕ → ℕ → Bool
+  pub links : ℕ → ℕ → ℕ → ℕ
 
 abbrev pub shapeOf : Part → Shape
-shapeOf p = record { atoms = atoms p; empty = canBeEmpty p; first = λ n x. isFirst n p x; last = λ n x. isLast n p x; follow = λ n x y. follows n p x y }
+shapeOf p = record { atoms = atoms p; empty = canBeEmpty p; first = λ n x. isFirst n p x; last = λ n x. isLast n p x; links = λ n x y. links n p x y }
 
--- the rows and the tables at some time
+-- the rows, the links beyond the first, and the tables, at some time
 pub record Memory : Type 0 where
   pub rows : List ℕ
+  pub more : List ℕ
   pub sets : List ℕ
   pub credits : List ℕ
 
-abbrev pub memory : List ℕ → List ℕ → List ℕ → Memory
-memory rows sets credits = record { rows = rows; sets = sets; credits = credits }
+abbrev pub memory : List ℕ → List ℕ → List ℕ → List ℕ → Memory
+memory rows more sets credits = record { rows = rows; more = more; sets = sets; credits = credits }
 
 -- the result r has the shape x, with n positions to its left; m is the memory before it, and m′ that with its own added
 pub record Has (n : ℕ) (m m′ : Memory) (x : Shape) (r : Parsed) : Type 0 where
@@ -48,7 +49,8 @@ pub record Has (n : ℕ) (m m′ : Memory) (x : Shape) (r : Parsed) : Type 0 whe
   pub lasts : Marks (r .lasts) (x .last n)
   pub reversed : r .reversed ≡ anyReversed (x .atoms)
   pub hollow : r .hollow ≡ anyEmpty (x .atoms)
-  pub adds : Adds (m .rows) (x .follow n) (m′ .rows)
+  pub links : Gains (m .rows) (m .more) (x .links n) (m′ .rows) (m′ .more)
+  pub single : r .doubled ≡ false → m′ .more ≡ m .more
   pub stores : (al : List Atom) → length al ≡ n → Stored al (m .sets) (m .credits) → Stored (al ++ x .atoms) (m′ .sets) (m′ .credits)
 
 -- r is what was parsed of the text s from the place `at` on: it has the shape x, and the text goes on with `rest`
@@ -76,23 +78,24 @@ closedRead a = if a .good && eqb (peek (a .rest)) (code ")") then read (a .part)
 
 -- before the first part: nothing is read, which can be empty for a joining and cannot for branches
 abbrev pub nothingRead : ℕ → ℕ → Bool → Parsed
-nothingRead at n empty = record { good = true; at = at; n = n; empty = empty; firsts = 0; lasts = 0; reversed = false; hollow = false }
+nothingRead at n empty = record { good = true; at = at; n = n; empty = empty; firsts = 0; lasts = 0; reversed = false; hollow = false; doubled = false }
 
--- whatever p stands for, r stands for what `change` makes of it, where the rows were `rows` and are rows′
-abbrev pub Changes : (Read → Read) → List ℕ → List ℕ → List ℕ → Parsed → Parsed → Type 0
-Changes change s rows rows′ p r =
-    (at n : ℕ) (m : Memory) (sets credits : List ℕ) (R : Read) → Stands s at n m (memory rows sets credits) R p
-    → Stands s at n m (memory rows′ sets credits) (change R) r
+-- whatever p stands for, r stands for what `change` makes of it, where the rows and the links beyond the first were `rows` and `more`
+-- and are rows′ and more′
+abbrev pub Changes : (Read → Read) → List ℕ → List ℕ → List ℕ → List ℕ → List ℕ → Parsed → Parsed → Type 0
+Changes change s rows more rows′ more′ p r =
+    (at n : ℕ) (m : Memory) (sets credits : List ℕ) (R : Read) → Stands s at n m (memory rows more sets credits) R p
+    → Stands s at n m (memory rows′ more′ sets credits) (change R) r
 
 -- the same for a repeat, by whether it may be left out and whether it may go round
-abbrev pub Repeats : Bool → Bool → List ℕ → List ℕ → Parsed → Parsed → Type 0
-Repeats skip loop rows rows′ p r =
+abbrev pub Repeats : Bool → Bool → List ℕ → List ℕ → List ℕ → List ℕ → Parsed → Parsed → Type 0
+Repeats skip loop rows more rows′ more′ p r =
     (s : List ℕ) (at n : ℕ) (m : Memory) (sets credits : List ℕ) (R : Read) (k : Repeat) → skips k ≡ skip → loops k ≡ loop → p .good ≡ true → p .at < length s
-    → Stands s at n m (memory rows sets credits) R p → Stands s at n m (memory rows′ sets credits) (read (again k (R .part)) (drop 1 (R .rest))) r
+    → Stands s at n m (memory rows more sets credits) R p → Stands s at n m (memory rows′ more′ sets credits) (read (again k (R .part)) (drop 1 (R .rest))) r
 
--- a lettered atom is read: the rows stay, whatever they are
+-- a lettered atom is read: the rows and the links stay, whatever they are
 abbrev pub Letters : List ℕ → ℕ → ℕ → List ℕ → List ℕ → List ℕ → List ℕ → Read → Parsed → Type 0
-Letters s at n sets credits sets′ credits′ R r = (rows : List ℕ) → Stands s at n (memory rows sets credits) (memory rows sets′ credits′) R r
+Letters s at n sets credits sets′ credits′ R r = (rows more : List ℕ) → Stands s at n (memory rows more sets credits) (memory rows more sets′ credits′) R r
 
 -- r is a, and b after it: what ends it is b's, and a fact of an atom is one of both
 pub record Follows (a b r : Parsed) : Type 0 where
@@ -108,11 +111,14 @@ pub record Either (a b r : Parsed) : Type 0 where
   pub empty : r .empty ≡ (a .empty || b .empty)
   pub firsts : (j : ℕ) → hasBit (r .firsts) j ≡ (hasBit (a .firsts) j || hasBit (b .firsts) j)
   pub lasts : (j : ℕ) → hasBit (r .lasts) j ≡ (hasBit (a .lasts) j || hasBit (b .lasts) j)
+  pub doubled : r .doubled ≡ (a .doubled || b .doubled)
 
--- r is a, then b: the firsts of b may follow the lasts of a
-pub record Joins (rows rows′ : List ℕ) (a b r : Parsed) : Type 0 where
+-- r is a, then b: the firsts of b may follow the lasts of a, by one link more; `second` says whether one of them might before
+pub record Joins (rows more rows′ more′ : List ℕ) (a b r : Parsed) : Type 0 where
   pub follows : Follows a b r
   pub empty : r .empty ≡ (a .empty && b .empty)
   pub firsts : (j : ℕ) → hasBit (r .firsts) j ≡ (hasBit (a .firsts) j || (a .empty && hasBit (b .firsts) j))
   pub lasts : (j : ℕ) → hasBit (r .lasts) j ≡ (hasBit (b .lasts) j || (b .empty && hasBit (a .lasts) j))
-  pub links : Linked rows (a .lasts) (b .firsts) rows′
+  pub second : Bool
+  pub links : LinksMore rows more (a .lasts) (b .firsts) rows′ more′ second
+  pub doubled : r .doubled ≡ ((a .doubled || b .doubled) || second)

@@ -9,8 +9,8 @@ ghost use Rattle.parsed.specs.Tables.{Sized};
 ghost use Rattle.parsed.specs.Parsed.{memory, Letters, Changes, Repeats, Stands, nothingRead, Either, Joins, closedRead};
 
 // A part that was parsed: whether the grammar holds so far, where it goes on, how many positions there are up to there; whether
-// the part can be empty, its firsts and its lasts; whether an atom of it has a reversed range, or no letter. Where `good` is false
-// the rest means nothing.
+// the part can be empty, its firsts and its lasts; whether an atom of it has a reversed range, or no letter; whether two positions of
+// it were linked more than once. Where `good` is false the rest means nothing.
 pub struct Parsed {
     pub good: bool,
     pub at: usize,
@@ -20,6 +20,7 @@ pub struct Parsed {
     pub lasts: u64,
     pub reversed: bool,
     pub hollow: bool,
+    pub doubled: bool,
 }
 
 // Before the first part of a pattern or a branch.
@@ -35,6 +36,7 @@ pub fn nothing(at: usize, n: usize, empty: bool) -> Parsed
         lasts: 0,
         reversed: false,
         hollow: false,
+        doubled: false,
     }
 }
 
@@ -51,15 +53,16 @@ pub fn either(a: Parsed, b: Parsed) -> Parsed
         lasts: bits::union(a.lasts, b.lasts),
         reversed: a.reversed | b.reversed,
         hollow: a.hollow | b.hollow,
+        doubled: a.doubled | b.doubled,
     }
 }
 
 // A piece more.
-pub fn join(rows: &mut [u64; 61], a: Parsed, b: Parsed) -> Parsed
-    requires { ⌜ length (now rows) ≡ 61 ⌝ }
-    ensures { λ r. ⌜ Joins (now (rows .entry)) (now (rows .exit)) a b r × (length (now (rows .exit)) ≡ 61) ⌝ }
+pub fn join(rows: &mut [u64; 61], more: &mut [u8], a: Parsed, b: Parsed) -> Parsed
+    requires { ⌜ (length (now rows) ≡ 61) × (length (now more) ≡ 3721) ⌝ }
+    ensures { λ r. ⌜ Joins (now (rows .entry)) (now (more .entry)) (now (rows .exit)) (now (more .exit)) a b r ⌝ }
 {
-    links::link(rows, a.lasts, b.firsts);
+    let second = links::link(rows, more, a.lasts, b.firsts);
     Parsed {
         good: b.good,
         at: b.at,
@@ -69,6 +72,7 @@ pub fn join(rows: &mut [u64; 61], a: Parsed, b: Parsed) -> Parsed
         lasts: links::union_if(b.empty, b.lasts, a.lasts),
         reversed: a.reversed | b.reversed,
         hollow: a.hollow | b.hollow,
+        doubled: (a.doubled | b.doubled) | second,
     }
 }
 
@@ -80,18 +84,19 @@ pub fn lettered(
     rows: &mut [u64; 61],
     sets: &mut [u64],
     credits: &mut [u8],
+    more: &mut [u8],
 ) -> Parsed
-    requires { ⌜ (n ≤ at) × Sized (now sets) (now credits) × (length (now rows) ≡ 61) ⌝ }
-    ensures { λ r. ⌜ Stands (now (s .entry)) at n (memory (now (rows .entry)) (now (sets .entry)) (now (credits .entry))) (memory (now (rows .exit)) (now (sets .exit)) (now (credits .exit))) (repeated (readLetter (drop at (now (s .entry))))) r
+    requires { ⌜ (n ≤ at) × Sized (now sets) (now credits) × (length (now rows) ≡ 61) × (length (now more) ≡ 3721) ⌝ }
+    ensures { λ r. ⌜ Stands (now (s .entry)) at n (memory (now (rows .entry)) (now (more .entry)) (now (sets .entry)) (now (credits .entry))) (memory (now (rows .exit)) (now (more .exit)) (now (sets .exit)) (now (credits .exit))) (repeated (readLetter (drop at (now (s .entry))))) r
         × (length (now (rows .exit)) ≡ 61) ⌝ }
 {
     let a = letter(s, at, n, sets, credits);
-    repeat(s, a, rows)
+    repeat(s, a, rows, more)
 }
 
 // The `)` after a pattern in `( )`.
 pub fn closed(s: &[u8], p: Parsed) -> Parsed
-    ensures { λ r. ⌜ ((rows : List ℕ) → Changes closedRead (now (s .entry)) rows rows p r) ⌝ }
+    ensures { λ r. ⌜ ((rows more : List ℕ) → Changes closedRead (now (s .entry)) rows more rows more p r) ⌝ }
 {
     let mut out = p;
     let at = p.at;
@@ -104,22 +109,22 @@ pub fn closed(s: &[u8], p: Parsed) -> Parsed
 }
 
 // What repeats an atom, if anything does.
-pub fn repeat(s: &[u8], p: Parsed, rows: &mut [u64; 61]) -> Parsed
-    requires { ⌜ length (now rows) ≡ 61 ⌝ }
-    ensures { λ r. ⌜ Changes repeated (now (s .entry)) (now (rows .entry)) (now (rows .exit)) p r × (length (now (rows .exit)) ≡ 61) ⌝ }
+pub fn repeat(s: &[u8], p: Parsed, rows: &mut [u64; 61], more: &mut [u8]) -> Parsed
+    requires { ⌜ (length (now rows) ≡ 61) × (length (now more) ≡ 3721) ⌝ }
+    ensures { λ r. ⌜ Changes repeated (now (s .entry)) (now (rows .entry)) (now (more .entry)) (now (rows .exit)) (now (more .exit)) p r × (length (now (rows .exit)) ≡ 61) ⌝ }
 {
     if !p.good {
         return p;
     }
     let b = places::byte_at(s, p.at);
     if b == b'?' {
-        return again(p, rows, true, false);
+        return again(p, rows, more, true, false);
     }
     if b == b'*' {
-        return again(p, rows, true, true);
+        return again(p, rows, more, true, true);
     }
     if b == b'+' {
-        return again(p, rows, false, true);
+        return again(p, rows, more, false, true);
     }
     p
 }
@@ -151,18 +156,20 @@ fn letter(s: &[u8], at: usize, n: usize, sets: &mut [u64], credits: &mut [u8]) -
         lasts: own,
         reversed: a.reversed,
         hollow: a.hollow,
+        doubled: false,
     }
 }
 
 // The part with its repeat, one byte further: whether it may be left out, and whether it may go round.
-fn again(p: Parsed, rows: &mut [u64; 61], skips: bool, loops: bool) -> Parsed
-    requires { ⌜ (p .at < 18446744073709551615) × (length (now rows) ≡ 61) ⌝ }
-    ensures { λ r. ⌜ Repeats skips loops (now (rows .entry)) (now (rows .exit)) p r × (length (now (rows .exit)) ≡ 61) ⌝ }
+fn again(p: Parsed, rows: &mut [u64; 61], more: &mut [u8], skips: bool, loops: bool) -> Parsed
+    requires { ⌜ (p .at < 18446744073709551615) × (length (now rows) ≡ 61) × (length (now more) ≡ 3721) ⌝ }
+    ensures { λ r. ⌜ Repeats skips loops (now (rows .entry)) (now (more .entry)) (now (rows .exit)) (now (more .exit)) p r × (length (now (rows .exit)) ≡ 61) ⌝ }
 {
     let mut out = p;
     let back = links::union_if(loops, 0, p.lasts);
-    links::link(rows, back, p.firsts);
+    let second = links::link(rows, more, back, p.firsts);
     out.at = p.at + 1;
     out.empty = skips | p.empty;
+    out.doubled = p.doubled | second;
     out
 }

@@ -18,11 +18,11 @@ use Rattle.parts.specs.Parsing.{Parses, both, barNext}
 use Rattle.parsed.proofs.Standing.{stands-not}
 use Rattle.parts.proofs.Parsing.{moves}
 use Rattle.parsed.proofs.Joining.{has-nothing, has-either, has-joined}
-use Rattle.parsed.proofs.Shapes.{joinedShape, eitherShape, noShape, joined-none, joined-assoc, either-none, either-assoc}
+use Rattle.parsed.proofs.Shapes.{joinedShape, eitherShape, noShape, joined-none, joined-assoc, either-none, either-assoc, Owns, owns-part, owns-none, owns-joined, owns-either}
 
 -- the result at another place
 abbrev pub placed : Parsed → ℕ → Parsed
-placed r t = record { good = r .good; at = t; n = r .n; empty = r .empty; firsts = r .firsts; lasts = r .lasts; reversed = r .reversed; hollow = r .hollow }
+placed r t = record { good = r .good; at = t; n = r .n; empty = r .empty; firsts = r .firsts; lasts = r .lasts; reversed = r .reversed; hollow = r .hollow; doubled = r .doubled }
 
 -- A loop that folds: `self` reads a `first` and, on a test of what comes next and some bytes on, combines it with more of its own kind.
 -- For shapes op does so, with a unit, which can be empty where `none` says so; for a and b in the program, and for the memory after b,
@@ -39,7 +39,8 @@ pub record Fold : Type 1 where
   pub none : Bool
   pub shapes : (p q : Part) → shapeOf (combine p q) ≡ op (shapeOf p) (shapeOf q)
   pub unit : (x : Shape) → op (noShape none) x ≡ x
-  pub assoc : (x y z : Shape) → op (op x y) z ≡ op x (op y z)
+  pub owns : (x y : Shape) → Owns x → Owns y → Owns (op x y)
+  pub assoc : (x y z : Shape) → Owns x → Owns y → Owns z → op (op x y) z ≡ op x (op y z)
   pub Combined : Memory → Memory → Parsed → Parsed → Parsed → Type 0
   pub follows : (m m′ : Memory) (a b r : Parsed) → Combined m m′ a b r → Follows a b r
   pub has : (n : ℕ) (m m₁ m₂ m₃ : Memory) (x y : Shape) (a b r : Parsed) → Has n m m₁ x a → Has (a .n) m₁ m₂ y b → Combined m₂ m₃ a b r → Has n m m₃ (op x y) r
@@ -58,10 +59,11 @@ pieces = record {
   none = true;
   shapes = λ p q. refl;
   unit = joined-none;
+  owns = owns-joined;
   assoc = joined-assoc;
-  Combined = λ m m′ a b r. Joins (m .rows) (m′ .rows) a b r × (m′ ≡ memory (m′ .rows) (m .sets) (m .credits));
+  Combined = λ m m′ a b r. Joins (m .rows) (m .more) (m′ .rows) (m′ .more) a b r × (m′ ≡ memory (m′ .rows) (m′ .more) (m .sets) (m .credits));
   follows = λ m m′ a b r e. e .0 .follows;
-  has = λ n m m₁ m₂ m₃ x y a b r ha hb e. subst (λ (k : Memory). Has n m k (joinedShape x y) r) (sym (e .1)) (has-joined n m m₁ m₂ x y a b ha hb (m₃ .rows) r (e .0));
+  has = λ n m m₁ m₂ m₃ x y a b r ha hb e. subst (λ (k : Memory). Has n m k (joinedShape x y) r) (sym (e .1)) (has-joined n m m₁ m₂ x y a b ha hb (m₃ .rows) (m₃ .more) r (e .0));
 }
 
 -- branches to a pattern
@@ -78,7 +80,8 @@ branches = record {
   none = false;
   shapes = λ p q. refl;
   unit = either-none;
-  assoc = either-assoc;
+  owns = owns-either;
+  assoc = λ x y z ox oy oz. either-assoc x y z;
   Combined = λ m m′ a b r. Either a b r × (m′ ≡ m);
   follows = λ m m′ a b r e. e .0 .follows;
   has = λ n m m₁ m₂ m₃ x y a b r ha hb e. subst (λ (k : Memory). Has n m k (eitherShape x y) r) (sym (e .1)) (has-either n m m₁ m₂ x y a b ha hb r (e .0));
@@ -94,6 +97,7 @@ module _ (F : Fold) (s : List ℕ) (at n : ℕ) (m : Memory) where
     pub depth : ℕ
     pub enough : 3 * (length s - a .at) + suc (F .rank) < depth
     pub shape : Shape
+    pub owns : Owns shape
     pub has : Has n m now shape a
     pub goes : (m′ : Memory) (r : Parsed) → Rest depth shape (a .at) m′ r → Stands s at n m m′ (F .self f (drop at s)) r
 
@@ -110,6 +114,7 @@ module _ (F : Fold) (s : List ℕ) (at n : ℕ) (m : Memory) where
       depth = f;
       enough = h;
       shape = noShape (F .none);
+      owns = owns-none (F .none);
       has = has-nothing at n m (F .none);
       goes = λ m′ r w. let R = F .self f (drop at s) in subst (λ (x : Shape). StandsFor s at n m m′ (R .good) x (R .rest) r) (F .unit (shapeOf (R .part))) w;
     };
@@ -161,9 +166,9 @@ module _ (F : Fold) (s : List ℕ) (at n : ℕ) (m : Memory) where
       good : b .good ≡ true
       good = sym (follows .good) ∙ and-parts (r .good) (F .test (drop (r .at) s)) e .0
 
-      more : (x : Shape) (A B : Read) (m′ : Memory) (r′ : Parsed) → StandsFor s at n m m′ (B .good) (F .op (F .op x (shapeOf (A .part))) (shapeOf (B .part))) (B .rest) r′
+      more : (x : Shape) → Owns x → (A B : Read) (m′ : Memory) (r′ : Parsed) → StandsFor s at n m m′ (B .good) (F .op (F .op x (shapeOf (A .part))) (shapeOf (B .part))) (B .rest) r′
           → StandsFor s at n m m′ (both (F .combine) A B .good) (F .op x (shapeOf (both (F .combine) A B .part))) (both (F .combine) A B .rest) r′
-      more x A B m′ r′ w =
+      more x ox A B m′ r′ w =
           by-test (B .good)
           (λ g.
           subst (λ (R : Read). StandsFor s at n m m′ (R .good) (F .op x (shapeOf (R .part))) (R .rest) r′) (sym (if-yes (read (F .combine (A .part) (B .part)) (B .rest)) broken (B .good) g))
@@ -171,16 +176,16 @@ module _ (F : Fold) (s : List ℕ) (at n : ℕ) (m : Memory) where
             same = w .same ∙ g;
             gives = λ k.
                 let y = w .gives k in
-                record { on = y .on; within = y .within; few = y .few; goes = y .goes; has = subst (λ (z : Shape). Has n m m′ z r′) (F .assoc x (shapeOf (A .part)) (shapeOf (B .part)) ∙ ap (F .op x) (sym (F .shapes (A .part) (B .part)))) (y .has) };
+                record { on = y .on; within = y .within; few = y .few; goes = y .goes; has = subst (λ (z : Shape). Has n m m′ z r′) (F .assoc x (shapeOf (A .part)) (shapeOf (B .part)) ox (owns-part (A .part)) (owns-part (B .part)) ∙ ap (F .op x) (sym (F .shapes (A .part) (B .part)))) (y .has) };
           })
           (λ g.
           subst (λ (R : Read). StandsFor s at n m m′ (R .good) (F .op x (shapeOf (R .part))) (R .rest) r′) (sym (if-no (read (F .combine (A .part) (B .part)) (B .rest)) broken (B .good) g))
           (stands-not s at n m m′ false (F .op x (shapeOf (broken .part))) (broken .rest) r′ (w .same ∙ g) refl))
 
-      next-one : (f d : ℕ) (x : Shape) → 3 * (length s - a .at) + suc (F .rank) < d → Has n m now x a → ((m′ : Memory) (r′ : Parsed) → Rest d x (a .at) m′ r′ → Stands s at n m m′ (F .self f (drop at s)) r′)
+      next-one : (f d : ℕ) (x : Shape) → Owns x → 3 * (length s - a .at) + suc (F .rank) < d → Has n m now x a → ((m′ : Memory) (r′ : Parsed) → Rest d x (a .at) m′ r′ → Stands s at n m m′ (F .self f (drop at s)) r′)
           → Partly f now″ (placed r t)
-      next-one f zero x h hx goes = absurd (omega arith)
-      next-one f (suc d) x h hx goes =
+      next-one f zero x ox h hx goes = absurd (omega arith)
+      next-one f (suc d) x ox h hx goes =
           let A = here d in
           let v : Stands s (a .at) (a .n) now now′ A b = parses d (omega arith) in
           let y = v .gives good in
@@ -192,8 +197,9 @@ module _ (F : Fold) (s : List ℕ) (at n : ℕ) (m : Memory) where
             depth = d;
             enough = let on = y .on in let within = y .within in omega arith;
             shape = F .op x (shapeOf (A .part));
-            has = record { count = all .count; empty = all .empty; firsts = all .firsts; lasts = all .lasts; reversed = all .reversed; hollow = all .hollow; adds = all .adds; stores = all .stores };
-            goes = λ m′ r′ w. goes m′ r′ (subst (λ (R : Read). StandsFor s at n m m′ (R .good) (F .op x (shapeOf (R .part))) (R .rest) r′) (sym is) (more x A (F .self d (drop t s)) m′ r′ w));
+            owns = F .owns x (shapeOf (A .part)) ox (owns-part (A .part));
+            has = record { count = all .count; empty = all .empty; firsts = all .firsts; lasts = all .lasts; reversed = all .reversed; hollow = all .hollow; links = all .links; single = all .single; stores = all .stores };
+            goes = λ m′ r′ w. goes m′ r′ (subst (λ (R : Read). StandsFor s at n m m′ (R .good) (F .op x (shapeOf (R .part))) (R .rest) r′) (sym is) (more x ox A (F .self d (drop t s)) m′ r′ w));
           }
 
       pub goes-on : Sofar now″ (placed r t) × (a .at < t) × (r .at ≤ length s)
@@ -208,7 +214,7 @@ module _ (F : Fold) (s : List ℕ) (at n : ℕ) (m : Memory) where
             record {
               on = omega arith;
               few = omega arith;
-              partly = λ f h. let w = so .partly f h in next-one f (w .depth) (w .shape) (w .enough) (w .has) (w .goes);
+              partly = λ f h. let w = so .partly f h in next-one f (w .depth) (w .shape) (w .owns) (w .enough) (w .has) (w .goes);
             },
             omega arith,
             omega arith,

@@ -8,7 +8,7 @@ use Prim.Native.Char.{code}
 use native.Mathlib.Nat.{zero-add, lt-suc-self}
 use native.Mathlib.Omega.{arith}
 use borrow.Author.Tests.{eqb-true, eq-eqb, ne-eqb}
-use lib.Dec.{eqb}
+use lib.Dec.{eqb, ltb}
 use lib.ListN.{length, drop, replicate}
 use lib.Seq.{drop-drop}
 use Rattle.basics.specs.Choice.{if_then_else_}
@@ -16,6 +16,7 @@ use Rattle.basics.proofs.Tests.{if-yes, if-no, and-parts}
 use Rattle.pattern.specs.Grammar.{Read, read, broken, peek, readLetter, repeated, patternFrom, pieceFrom}
 use Rattle.places.proofs.Places.{next-within}
 use Rattle.links.proofs.Linking.{links-alone}
+use Rattle.links.proofs.Counting.{counts-alone}
 use Rattle.parsed.specs.declared.Parsed.{Parsed}
 use Rattle.parsed.specs.Tables.{Stored}
 use Rattle.parsed.specs.Parsed.{Shape, Memory, memory, Has, Stands, closedRead, Changes}
@@ -39,9 +40,9 @@ moves F rank s at n m m′ r d g =
     (v .on, v .within, v .few)
 
 -- the same by equal memory and an equal result
-pub parses-as : (F : ℕ → List ℕ → Read) (rank : ℕ) (s : List ℕ) (at n : ℕ) (m : Memory) {rows sets credits rows′ sets′ credits′ : List ℕ} {r r′ : Parsed} → rows ≡ rows′ → sets ≡ sets′ → credits ≡ credits′ → r ≡ r′
-    → Parses F rank s at n m (memory rows′ sets′ credits′) r′ → Parses F rank s at n m (memory rows sets credits) r
-parses-as F rank s at n m d e f g = subst (λ (x : Memory × Parsed). Parses F rank s at n m (x .0) (x .1)) (sym (λ i. (memory (d i) (e i) (f i), g i)))
+pub parses-as : (F : ℕ → List ℕ → Read) (rank : ℕ) (s : List ℕ) (at n : ℕ) (m : Memory) {rows more sets credits rows′ more′ sets′ credits′ : List ℕ} {r r′ : Parsed} → rows ≡ rows′ → more ≡ more′ → sets ≡ sets′ → credits ≡ credits′ → r ≡ r′
+    → Parses F rank s at n m (memory rows′ more′ sets′ credits′) r′ → Parses F rank s at n m (memory rows more sets credits) r
+parses-as F rank s at n m d h e f g = subst (λ (x : Memory × Parsed). Parses F rank s at n m (x .0) (x .1)) (sym (λ i. (memory (d i) (h i) (e i) (f i), g i)))
 
 -- ---- a piece: a lettered atom, or a pattern in `( )`
 
@@ -60,14 +61,14 @@ piece-letter s at n m m′ r d w (suc f) h =
     let l = drop at s in
     stands-as s at n m m′ r (piece-step f l ∙ if-no (repeated (closedRead (patternFrom f (drop 1 l)))) (repeated (readLetter l)) (eqb (peek l) (code "(")) (ne-eqb (peek l) (code "(") d)) w
 
-pub piece-open : (s : List ℕ) (at n : ℕ) (m : Memory) (rows rows′ sets credits : List ℕ) (i a r : Parsed) → peek (drop at s) ≡ code "(" → Parses patternFrom 2 s (at + 1) n m (memory rows sets credits) i
-    → Changes closedRead s rows rows i a → Changes repeated s rows rows′ a r → Parses pieceFrom 0 s at n m (memory rows′ sets credits) r
-piece-open s at n m rows rows′ sets credits i a r e d closes repeats zero h = absurd (omega arith)
-piece-open s at n m rows rows′ sets credits i a r e d closes repeats (suc f) h =
+pub piece-open : (s : List ℕ) (at n : ℕ) (m : Memory) (rows more rows′ more′ sets credits : List ℕ) (i a r : Parsed) → peek (drop at s) ≡ code "(" → Parses patternFrom 2 s (at + 1) n m (memory rows more sets credits) i
+    → Changes closedRead s rows more rows more i a → Changes repeated s rows more rows′ more′ a r → Parses pieceFrom 0 s at n m (memory rows′ more′ sets credits) r
+piece-open s at n m rows more rows′ more′ sets credits i a r e d closes repeats zero h = absurd (omega arith)
+piece-open s at n m rows more rows′ more′ sets credits i a r e d closes repeats (suc f) h =
     let l = drop at s in
     let X = patternFrom f (drop 1 l) in
     let inside : at < length s = next-within s at (omega arith) in
-    let w : Stands s at n m (memory rows sets credits) (patternFrom f (drop (at + 1) s)) i = stands-from s at (at + 1) n m (memory rows sets credits) (patternFrom f (drop (at + 1) s)) i (omega arith) (d f (omega arith)) in
+    let w : Stands s at n m (memory rows more sets credits) (patternFrom f (drop (at + 1) s)) i = stands-from s at (at + 1) n m (memory rows more sets credits) (patternFrom f (drop (at + 1) s)) i (omega arith) (d f (omega arith)) in
     stands-as s at n m _ r (piece-step f l ∙ if-yes (repeated (closedRead X)) (repeated (readLetter l)) (eqb (peek l) (code "(")) (eq-eqb (peek l) (code "(") e))
     (repeats at n m sets credits (closedRead X) (closes at n m sets credits X (stands-as s at n m _ i (ap (patternFrom f) (drop-drop 1 at s)) w)))
 
@@ -76,14 +77,17 @@ bar-within s g n e = next-within s n (omega (arith, eqb-true (peek (drop n s)) (
 
 -- ---- the whole pattern: nothing is before it
 
-pub has-whole : (k : ℕ) (rows sets credits sets′ credits′ : List ℕ) (x : Shape) (r : Parsed) → Has 0 (memory (replicate k 0) sets credits) (memory rows sets′ credits′) x r → Stored [] sets credits → Whole x rows sets′ credits′ r
-has-whole k rows sets credits sets′ credits′ x r h st = record {
+pub has-whole : (k : ℕ) (rows more more′ sets credits sets′ credits′ : List ℕ) (x : Shape) (r : Parsed) → Has 0 (memory (replicate k 0) more sets credits) (memory rows more′ sets′ credits′) x r
+    → Stored [] sets credits → more ≡ replicate 3721 0 → Whole x rows more′ sets′ credits′ r
+has-whole k rows more more′ sets credits sets′ credits′ x r h st none = record {
   count = h .count ∙ zero-add (length (x .atoms));
   empty = h .empty;
   firsts = h .firsts;
   lasts = h .lasts;
   reversed = h .reversed;
   hollow = h .hollow;
-  links = links-alone k rows (x .follow 0) (h .adds);
+  links = links-alone k rows (λ a b. ltb 0 (x .links 0 a b)) (h .links .adds);
+  numbers = counts-alone k 3721 rows more more′ (x .links 0) none (h .links .counts);
+  single = λ d. h .single d ∙ none;
   stored = h .stores [] refl st;
 }

@@ -1,16 +1,16 @@
 -- What parsing a pattern, a branch or a piece gives, and the whole pattern.
 use mathlib.Core.Path.{_≡_}
-use mathlib.Core.Bool.{Bool, true}
+use mathlib.Core.Bool.{Bool, true, false}
 use mathlib.Core.List.{List}
 use Prim.Native.Nat.{ℕ, _+_, _-_, _*_, _<_, _≤_}
 use Prim.Native.Char.{code}
-use lib.Dec.{eqb}
-use lib.ListN.{length, drop}
+use lib.Dec.{eqb, ltb}
+use lib.ListN.{length, drop, replicate}
 use Rattle.basics.specs.Choice.{if_then_else_}
 use Rattle.pattern.specs.Parts.{Part}
 use Rattle.pattern.specs.Grammar.{Read, read, broken, peek, readPattern, patternPart}
 use Rattle.pattern.specs.Refusals.{anyReversed, anyEmpty}
-use Rattle.links.specs.Rows.{Marks, Links}
+use Rattle.links.specs.Rows.{kept, Marks, Links, number, after}
 use Rattle.parsed.specs.declared.Parsed.{Parsed}
 use Rattle.parsed.specs.Tables.{Stored}
 use Rattle.parsed.specs.Parsed.{Shape, shapeOf, Memory, Stands}
@@ -37,19 +37,21 @@ Opens s at = peek (drop at s) ≡ code "("
 -- ---- the whole pattern
 
 -- the result has the shape that a text begins with
-pub record Whole (x : Shape) (rows sets credits : List ℕ) (r : Parsed) : Type 0 where
+pub record Whole (x : Shape) (rows more sets credits : List ℕ) (r : Parsed) : Type 0 where
   pub count : r .n ≡ length (x .atoms)
   pub empty : r .empty ≡ x .empty
   pub firsts : Marks (r .firsts) (x .first 0)
   pub lasts : Marks (r .lasts) (x .last 0)
   pub reversed : r .reversed ≡ anyReversed (x .atoms)
   pub hollow : r .hollow ≡ anyEmpty (x .atoms)
-  pub links : Links rows (x .follow 0)
+  pub links : Links rows (λ a b. ltb 0 (x .links 0 a b))
+  pub numbers : (a b : ℕ) → kept a ≡ true → kept b ≡ true → number rows more a b ≡ after (x .links 0 a b) 0
+  pub single : r .doubled ≡ false → more ≡ replicate 3721 0
   pub stored : Stored (x .atoms) sets credits
 
 -- the result stands for what the rules read of the text s, with no position to its left and nothing in the memory before
-pub record ParsesAll (s rows sets credits : List ℕ) (r : Parsed) : Type 0 where
+pub record ParsesAll (s rows more sets credits : List ℕ) (r : Parsed) : Type 0 where
   pub same : r .good ≡ readPattern s .good
   pub within : r .good ≡ true → r .at ≤ length s
   pub rest : r .good ≡ true → readPattern s .rest ≡ drop (r .at) s
-  pub has : r .good ≡ true → Whole (shapeOf (patternPart s)) rows sets credits r
+  pub has : r .good ≡ true → Whole (shapeOf (patternPart s)) rows more sets credits r

@@ -1,13 +1,13 @@
 // Patterns, branches and pieces in one pass: three functions that call each other, as those of the grammar do. What they share
 // goes through them from left to right: the rows of what may follow by value, so that each call gives them back with its own
-// links, and the tables of letters and credits, which are lent and filled as the atoms are read. Patterns and branches are folded
-// from the left: one part has been read, and the next is joined to it.
+// links, and the tables of letters, of credits and of links beyond the first, which are lent and filled as the atoms are read.
+// Patterns and branches are folded from the left: one part has been read, and the next is joined to it.
 use parsed::Parsed;
 ghost use mathlib.Core.Path.{_≡_};
 ghost use mathlib.Core.Bool.{_&&_};
 ghost use mathlib.Core.List.{[]};
 ghost use Prim.Native.Nat.{_≤_};
-ghost use lib.ListN.{drop};
+ghost use lib.ListN.{length, drop, replicate};
 ghost use Rattle.pattern.specs.Grammar.{goesOn, patternFrom, branchFrom, pieceFrom};
 ghost use Rattle.parsed.specs.Tables.{Sized, Stored};
 ghost use Rattle.parsed.specs.Parsed.{memory};
@@ -20,12 +20,12 @@ pub struct ParsedRows {
 }
 
 // The pattern that s begins with. The whole of s follows the grammar where this is good and ends at the end of s.
-pub fn parse(s: &[u8], sets: &mut [u64], credits: &mut [u8]) -> ParsedRows
-    requires { ⌜ Sized (now sets) (now credits) × Stored [] (now sets) (now credits) ⌝ }
-    ensures { λ r. ⌜ ParsesAll (now (s .entry)) (r .rows) (now (sets .exit)) (now (credits .exit)) (r .part) ⌝ }
+pub fn parse(s: &[u8], sets: &mut [u64], credits: &mut [u8], more: &mut [u8]) -> ParsedRows
+    requires { ⌜ Sized (now sets) (now credits) × Stored [] (now sets) (now credits) × ((now more) ≡ replicate 3721 0) ⌝ }
+    ensures { λ r. ⌜ ParsesAll (now (s .entry)) (r .rows) (now (more .exit)) (now (sets .exit)) (now (credits .exit)) (r .part) ⌝ }
 {
     let rows = [0u64; 61];
-    pattern(s, 0, 0, rows, sets, credits)
+    pattern(s, 0, 0, rows, sets, credits, more)
 }
 
 // One or more branches, parted by `|`.
@@ -36,14 +36,15 @@ fn pattern(
     rows: [u64; 61],
     sets: &mut [u64],
     credits: &mut [u8],
+    more: &mut [u8],
 ) -> ParsedRows
-    requires { ⌜ (n ≤ at) × Sized (now sets) (now credits) ⌝ }
-    ensures { λ r. ⌜ Parses patternFrom 2 (now (s .entry)) at n (memory rows (now (sets .entry)) (now (credits .entry))) (memory (r .rows) (now (sets .exit)) (now (credits .exit))) (r .part) ⌝ }
+    requires { ⌜ (n ≤ at) × Sized (now sets) (now credits) × (length (now more) ≡ 3721) ⌝ }
+    ensures { λ r. ⌜ Parses patternFrom 2 (now (s .entry)) at n (memory rows (now (more .entry)) (now (sets .entry)) (now (credits .entry))) (memory (r .rows) (now (more .exit)) (now (sets .exit)) (now (credits .exit))) (r .part) ⌝ }
 {
     let mut all = rows;
     let mut so_far = parsed::nothing(at, n, false);
     loop {
-        let b = branch(s, so_far.at, so_far.n, all, &mut *sets, &mut *credits);
+        let b = branch(s, so_far.at, so_far.n, all, sets, credits, more);
         all = b.rows;
         let next = b.part;
         so_far = parsed::either(so_far, next);
@@ -65,22 +66,23 @@ fn branch(
     rows: [u64; 61],
     sets: &mut [u64],
     credits: &mut [u8],
+    more: &mut [u8],
 ) -> ParsedRows
-    requires { ⌜ (n ≤ at) × Sized (now sets) (now credits) ⌝ }
-    ensures { λ r. ⌜ Parses branchFrom 1 (now (s .entry)) at n (memory rows (now (sets .entry)) (now (credits .entry))) (memory (r .rows) (now (sets .exit)) (now (credits .exit))) (r .part) ⌝ }
+    requires { ⌜ (n ≤ at) × Sized (now sets) (now credits) × (length (now more) ≡ 3721) ⌝ }
+    ensures { λ r. ⌜ Parses branchFrom 1 (now (s .entry)) at n (memory rows (now (more .entry)) (now (sets .entry)) (now (credits .entry))) (memory (r .rows) (now (more .exit)) (now (sets .exit)) (now (credits .exit))) (r .part) ⌝ }
 {
     let mut all = rows;
     let mut so_far = parsed::nothing(at, n, true);
     loop {
         let t = so_far.at;
         let next = if places::byte_at(s, t) == b'(' {
-            let p = piece(s, t, so_far.n, all, &mut *sets, &mut *credits);
+            let p = piece(s, t, so_far.n, all, sets, credits, more);
             all = p.rows;
             p.part
         } else {
-            parsed::lettered(s, t, so_far.n, &mut all, &mut *sets, &mut *credits)
+            parsed::lettered(s, t, so_far.n, &mut all, sets, credits, more)
         };
-        so_far = parsed::join(&mut all, so_far, next);
+        so_far = parsed::join(&mut all, more, so_far, next);
         if !goes_on(s, so_far.good, so_far.at) {
             return ParsedRows {
                 part: so_far,
@@ -98,14 +100,15 @@ fn piece(
     rows: [u64; 61],
     sets: &mut [u64],
     credits: &mut [u8],
+    more: &mut [u8],
 ) -> ParsedRows
-    requires { ⌜ (n ≤ at) × Sized (now sets) (now credits) × Opens (now s) at ⌝ }
-    ensures { λ r. ⌜ Parses pieceFrom 0 (now (s .entry)) at n (memory rows (now (sets .entry)) (now (credits .entry))) (memory (r .rows) (now (sets .exit)) (now (credits .exit))) (r .part) ⌝ }
+    requires { ⌜ (n ≤ at) × Sized (now sets) (now credits) × (length (now more) ≡ 3721) × Opens (now s) at ⌝ }
+    ensures { λ r. ⌜ Parses pieceFrom 0 (now (s .entry)) at n (memory rows (now (more .entry)) (now (sets .entry)) (now (credits .entry))) (memory (r .rows) (now (more .exit)) (now (sets .exit)) (now (credits .exit))) (r .part) ⌝ }
 {
-    let mut p = pattern(s, at + 1, n, rows, sets, credits);
+    let mut p = pattern(s, at + 1, n, rows, sets, credits, more);
     let inner = p.part;
     let atom = parsed::closed(s, inner);
-    p.part = parsed::repeat(s, atom, &mut p.rows);
+    p.part = parsed::repeat(s, atom, &mut p.rows, more);
     p
 }
 

@@ -9,18 +9,19 @@ use lib.ListN.{List·getD-eq-default}
 use borrow.Author.Tests.{le-leb}
 use Rattle.basics.proofs.Tests.{and-parts, and-of, le-or-lt}
 use Rattle.alphabet.specs.Alphabet.{isLetter}
-use Rattle.graph.specs.Graph.{isPosition, Bounded}
+use Rattle.graph.specs.Graph.{next, isPosition, Bounded}
+use Rattle.graph.proofs.Links.{some-if}
 use Rattle.pattern.specs.Parts.{Atom, holds, Part}
 use Rattle.pattern.specs.Grammar.{noAtom}
-use Rattle.pattern.specs.Positions.{atoms, positions, atomAt, nextOf, lastOf, graphOf}
+use Rattle.pattern.specs.Positions.{atoms, positions, atomAt, isFirst, lastOf, graphOf}
 use Rattle.pattern.proofs.Own.{Own, first-own, last-own, follow-own}
 
 module _ (p : Part) where
-  own-position : (i : ℕ) → Own 0 p i → isPosition (graphOf p) i ≡ true
+  pub own-position : (i : ℕ) → Own 0 p i → isPosition (graphOf p) i ≡ true
   own-position i h = and-of (leb 1 i) (leb i (positions p)) (le-leb 1 i (omega arith)) (le-leb i (positions p) (omega arith))
 
-  next-within : (u i : ℕ) → nextOf p u i ≡ true → (u ≤ positions p) × Own 0 p i
-  next-within zero i e = (zero-le, first-own p 0 i e)
+  next-within : (u i : ℕ) → next (graphOf p) u i ≡ true → (u ≤ positions p) × Own 0 p i
+  next-within zero i e = (zero-le, first-own p 0 i (sym (some-if (isFirst 0 p i)) ∙ e))
   next-within (suc x) i e = let w = follow-own p 0 (suc x) i e in let l = w .0 in (omega arith, w .1)
 
   last-within : (u : ℕ) → lastOf p u ≡ true → u ≤ positions p

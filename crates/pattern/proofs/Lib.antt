@@ -1,4 +1,5 @@
 -- Proofs about patterns: positions, links, runs, texts and readings; what acceptance says; the specimens.
+pub mod Follows
 pub mod Own
 pub mod Link
 pub mod Within
@@ -7,5 +8,7 @@ pub mod RunTexts
 pub mod Texts
 pub mod Accepted
 pub mod Useful
+pub mod Doubled
+pub mod Depth
 pub mod Bounds
 pub mod Specimens

@@ -11,6 +11,7 @@ use borrow.Author.Tests.{eqb-true, eq-eqb}
 use Rattle.basics.proofs.Tests.{and-parts, and-of, or-left, or-right, or-cases}
 use Rattle.pattern.specs.Parts.{Repeat, skips, loops, Part, letter, either, joined, again}
 use Rattle.pattern.specs.Positions.{positions, canBeEmpty, isFirst, isLast, follows}
+use Rattle.pattern.proofs.Follows.{follows-either, follows-joined, follows-again}
 
 -- ---- the tests as one
 
@@ -29,7 +30,7 @@ link-either : (n : ℕ) (p q : Part) (u v : ℕ) → link n (either p q) u v ≡
 link-either n p q zero zero = refl
 link-either n p q zero (suc y) = refl
 link-either n p q (suc x) zero = refl
-link-either n p q (suc x) (suc y) = refl
+link-either n p q (suc x) (suc y) = follows-either n p q (suc x) (suc y)
 
 -- within the left part, within the right one, or over from one to the other
 link-joined : (n : ℕ) (p q : Part) (u v : ℕ)
@@ -37,7 +38,7 @@ link-joined : (n : ℕ) (p q : Part) (u v : ℕ)
 link-joined n p q zero zero = refl
 link-joined n p q zero (suc y) = refl
 link-joined n p q (suc x) zero = ap (λ (t : Bool). isLast (n + positions p) q (suc x) || t) (and-comm (canBeEmpty q) (isLast n p (suc x)))
-link-joined n p q (suc x) (suc y) = refl
+link-joined n p q (suc x) (suc y) = follows-joined n p q (suc x) (suc y)
 
 -- ---- the same as a type
 
@@ -87,7 +88,8 @@ link-says (again k p) n zero zero = says-or (says-itself (skips k)) (link-says p
 link-says (again k p) n zero (suc y) = link-says p n 0 (suc y)
 link-says (again k p) n (suc x) zero = link-says p n (suc x) 0
 link-says (again k p) n (suc x) (suc y) =
-    says-or (link-says p n (suc x) (suc y)) (says-and (says-itself (loops k)) (says-and (link-says p n (suc x) 0) (link-says p n 0 (suc y))))
+    rw (follows-again k n p (suc x) (suc y))
+    (says-or (link-says p n (suc x) (suc y)) (says-and (says-itself (loops k)) (says-and (link-says p n (suc x) 0) (link-says p n 0 (suc y)))))
 
 -- ---- a repeat keeps its part's links, and may go over from an end to a first
 
@@ -100,3 +102,8 @@ again-on k n p (suc x) (suc y) e = inl e
 pub again-over : (k : Repeat) (n : ℕ) (p : Part) (u y : ℕ) → loops k ≡ true → Link n p u 0 → Link n p 0 (suc y) → Link n (again k p) u (suc y)
 again-over k n p zero y l e f = f
 again-over k n p (suc x) y l e f = inr (l, (e, f))
+
+-- or to any state that it leads to
+pub again-past : (k : Repeat) (n : ℕ) (p : Part) (u v : ℕ) → loops k ≡ true → Link n p u 0 → Link n (again k p) 0 v → Link n (again k p) u v
+again-past k n p u zero l e f = again-on k n p u 0 e
+again-past k n p u (suc y) l e f = again-over k n p u y l e f

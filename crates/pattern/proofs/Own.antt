@@ -1,6 +1,6 @@
 -- The firsts and lasts of a part, and what may follow, are its own positions: with n positions to its left, n + 1 to n + positions.
 -- By induction on the part. Assumes nothing.
-use mathlib.Core.Path.{_≡_}
+use mathlib.Core.Path.{_≡_, sym, _∙_}
 use mathlib.Core.Logic.{⊎-elim}
 use mathlib.Core.Bool.{true, _&&_, _||_, false≢true}
 use Prim.Native.Nat.{ℕ, suc, _+_, _≤_, _<_}
@@ -10,6 +10,7 @@ use borrow.Author.Tests.{eqb-true}
 use Rattle.basics.proofs.Tests.{and-parts, or-cases}
 use Rattle.pattern.specs.Parts.{loops, Part, letter, either, joined, again}
 use Rattle.pattern.specs.Positions.{atoms, positions, canBeEmpty, isFirst, isLast, follows}
+use Rattle.pattern.proofs.Follows.{follows-either, follows-joined, follows-again}
 
 -- x is one of the positions of p, with n to its left
 abbrev pub Own : ℕ → Part → ℕ → Type 0
@@ -50,16 +51,16 @@ follow-own (letter a) n x y e = absurd (false≢true e)
 follow-own (either p q) n x y e =
     let m = n + positions p in
     ⊎-elim (λ h. let w = follow-own p n x y h in (own-left n p q x (w .0), own-left n p q y (w .1)))
-    (λ h. let w = follow-own q m x y h in (own-right n p q x (w .0), own-right n p q y (w .1))) (or-cases (follows n p x y) (follows m q x y) e)
+    (λ h. let w = follow-own q m x y h in (own-right n p q x (w .0), own-right n p q y (w .1))) (or-cases (follows n p x y) (follows m q x y) (sym (follows-either n p q x y) ∙ e))
 follow-own (joined p q) n x y e =
     let m = n + positions p in
     let over = isLast n p x && isFirst m q y in
     ⊎-elim (λ h. let w = follow-own p n x y h in (own-left n p q x (w .0), own-left n p q y (w .1)))
     (λ g. ⊎-elim (λ h. let w = follow-own q m x y h in (own-right n p q x (w .0), own-right n p q y (w .1)))
     (λ h. let w = and-parts (isLast n p x) (isFirst m q y) h in (own-left n p q x (last-own p n x (w .0)), own-right n p q y (first-own q m y (w .1))))
-    (or-cases (follows m q x y) over g)) (or-cases (follows n p x y) (follows m q x y || over) e)
+    (or-cases (follows m q x y) over g)) (or-cases (follows n p x y) (follows m q x y || over) (sym (follows-joined n p q x y) ∙ e))
 follow-own (again k p) n x y e =
     let back = isLast n p x && isFirst n p y in
     ⊎-elim (λ h. follow-own p n x y h)
     (λ h. let w = and-parts (isLast n p x) (isFirst n p y) (and-parts (loops k) back h .1) in (last-own p n x (w .0), first-own p n y (w .1)))
-    (or-cases (follows n p x y) (loops k && back) e)
+    (or-cases (follows n p x y) (loops k && back) (sym (follows-again k n p x y) ∙ e))

@@ -8,7 +8,7 @@ use Prim.Native.Nat.{ℕ, suc, _+_}
 use Rattle.pattern.specs.Parts.{Atom, holds, Repeat, loops, Part, joined, again}
 use Rattle.pattern.specs.Positions.{positions}
 use Rattle.pattern.specs.Texts.{Text, one, inLeft, inRight, both, never, once, more}
-use Rattle.pattern.proofs.Link.{Link, isPlace, again-on, again-over}
+use Rattle.pattern.proofs.Link.{Link, isPlace, again-on, again-over, again-past}
 use Rattle.pattern.proofs.Within.{Agree, agree-one, agree-left, agree-right}
 
 -- from state u over s to state v
@@ -36,8 +36,8 @@ module _ {Fits : ℕ → ℕ → Type 0} where
   run-join (step x e d r) t = step x (inl (refl, e)) d (run-join r t)
 
   -- ---- a part again and again
-  run-more : {k : Repeat} {n : ℕ} {p : Part} {u : ℕ} {s t : List ℕ} → loops k ≡ true → Run Fits n p u s 0 → Run Fits n (again k p) 0 t 0 → Run Fits n (again k p) u (s ++ t) 0
-  run-more {k} {n} {p} {u} l (end e) (end f) = end (again-on k n p u 0 e)
+  pub run-more : {k : Repeat} {n : ℕ} {p : Part} {u v : ℕ} {s t : List ℕ} → loops k ≡ true → Run Fits n p u s 0 → Run Fits n (again k p) 0 t v → Run Fits n (again k p) u (s ++ t) v
+  run-more {k} {n} {p} {u} {v} l (end e) (end f) = end (again-past k n p u v l e f)
   run-more {k} {n} {p} {u} l (end e) (step x f d r) = step x (again-over k n p u x l e f) d r
   run-more {k} {n} {p} {u} l (step x e d r) t = step x (again-on k n p u (suc x) e) d (run-more l r t)
 

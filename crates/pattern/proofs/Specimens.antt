@@ -42,7 +42,14 @@ starred =
     ∷ accepts "(a|a)b" "b" 0 0
     ∷ accepts "a*a*" "aaa" 4 0
     ∷ accepts "(a|a)*" "aaa" 8 0
-    ∷ accepts "(a*)*" "aaa" 1 0
+    ∷ accepts "(a*)*" "aaa" 4 0
+    ∷ accepts "(a+)+" "aaa" 4 0
+    ∷ accepts "(a*)+" "aaa" 4 0
+    ∷ accepts "((a*)*)*" "aaa" 9 0
+    ∷ accepts "(ab*)*" "abbab" 1 0
+    ∷ accepts "(a*b?)*" "aab" 4 0
+    ∷ accepts "(a*|b)*" "aab" 2 0
+    ∷ accepts "(a?b?)*" "abab" 4 0
     ∷ accepts "[a-l]*[m-z]*" "am" 1 0
     ∷ accepts "[a-m]*[m-z]*" "m" 2 0
     ∷ accepts "a=2b|ab=3" "ab" 2 3
@@ -110,6 +117,12 @@ grammar =
     ∷ accepts "(a*)+" "" 1 0
     ∷ accepts "ab*" "abab" 0 0
     ∷ accepts "(ab)*" "abab" 1 0
+    -- a repeat that goes round on nothing is no link, and how pieces are joined plays no part
+    ∷ accepts "(a?)*" "aa" 1 0
+    ∷ accepts "((a?)+)?" "aa" 1 0
+    ∷ accepts "ab?c?d" "ad" 1 0
+    ∷ accepts "(a*b*)*" "ab" 2 0
+    ∷ accepts "(a=1*)*" "aaa" 4 3
     -- no branch and no piece is missing, no bracket is open, and no other syntax is read
     ∷ declines "a|" 5
     ∷ declines "|a" 5

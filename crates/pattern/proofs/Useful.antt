@@ -1,6 +1,5 @@
 -- Every position of a part lies on a run from 0 to 0, with fewer positions before it, and after it, than the part has: by structure,
--- as a part then another takes a whole run of the one it does not lie in. With refusal 7 an accepted pattern's graph is trim.
--- Assumes nothing.
+-- as a part then another takes a whole run of the one it does not lie in. Assumes nothing.
 use mathlib.Core.Path.{_≡_, refl, subst}
 use mathlib.Core.Logic.{inl, inr, ⊎-elim}
 use mathlib.Core.Bool.{true, false, not}
@@ -11,29 +10,28 @@ use native.Mathlib.Omega.{arith}
 use lib.ListN.{length, length-append, getD}
 use borrow.Author.Tests.{not-false}
 use Rattle.basics.specs.Lists.{endOf}
-use Rattle.basics.proofs.Tests.{and-parts, or-parts, le-or-lt}
+use Rattle.basics.proofs.Tests.{or-parts, le-or-lt}
 use Rattle.basics.proofs.Lists.{end-append}
-use Rattle.alphabet.specs.Alphabet.{isLetter, someLetter}
+use Rattle.alphabet.specs.Alphabet.{someLetter}
 use Rattle.graph.specs.Graph.{isPosition}
 use Rattle.graph.proofs.Walks.{position-of}
-use Rattle.graph.specs.Trim.{Route, Useful, Trim}
+use Rattle.graph.specs.Trim.{Route, Useful}
 use Rattle.pattern.specs.Parts.{Atom, holds, Part, letter, either, joined, again}
-use Rattle.pattern.specs.Grammar.{noAtom, patternPart}
+use Rattle.pattern.specs.Grammar.{noAtom}
 use Rattle.pattern.specs.Positions.{atoms, positions, atomAt, graphOf}
-use Rattle.pattern.specs.Refusals.{anyEmpty, patternRefusal}
+use Rattle.pattern.specs.Refusals.{anyEmpty}
 use Rattle.pattern.proofs.Link.{Link, again-on}
 use Rattle.pattern.proofs.Within.{positions-joined}
 use Rattle.pattern.proofs.Runs.{Run, end, step, run-on, run-right, run-join}
 use Rattle.pattern.proofs.Texts.{next-link, last-link, link-position}
-use Rattle.pattern.proofs.Accepted.{refusal-none}
 
 -- ---- runs by their positions
 
 -- the list of a way is that of the positions it comes to
-abbrev Way : ℕ → Part → ℕ → List ℕ → ℕ → Type 0
+abbrev pub Way : ℕ → Part → ℕ → List ℕ → ℕ → Type 0
 Way = Run (λ x i. x ≡ i)
 
-way-left : {n : ℕ} {p q : Part} {u y : ℕ} {r : List ℕ} → Way n p u r (suc y) → Way n (joined p q) u r (suc y)
+pub way-left : {n : ℕ} {p q : Part} {u y : ℕ} {r : List ℕ} → Way n p u r (suc y) → Way n (joined p q) u r (suc y)
 way-left (end e) = end (inl (refl, e))
 way-left (step x e d k) = step x (inl (refl, e)) d (way-left k)
 
@@ -57,13 +55,13 @@ through (joined p q) n =
 through (again k p) n = let t = through p n in record { by = t .by; way = run-on (again-on k n p) (t .way); short = t .short }
 
 -- ways to a position and from it
-record Passed (n : ℕ) (p : Part) (x : ℕ) : Type 0 where
-  before : List ℕ
-  to : Way n p 0 before (suc x)
-  few-before : length before < positions p
-  after : List ℕ
-  from : Way n p (suc x) after 0
-  few-after : length after < positions p
+pub record Passed (n : ℕ) (p : Part) (x : ℕ) : Type 0 where
+  pub before : List ℕ
+  pub to : Way n p 0 before (suc x)
+  pub few-before : length before < positions p
+  pub after : List ℕ
+  pub from : Way n p (suc x) after 0
+  pub few-after : length after < positions p
 
 passed-on : {n l : ℕ} {p w : Part} {x : ℕ} → ((u v : ℕ) → Link n p u v → Link l w u v) → positions p ≤ positions w → Passed n p x → Passed l w x
 passed-on f z t = record {
@@ -101,7 +99,7 @@ passed-right {n} {p} {q} t =
       few-after = omega arith;
     }
 
-passed : (p : Part) (n x : ℕ) → n ≤ x → x < n + positions p → Passed n p x
+pub passed : (p : Part) (n x : ℕ) → n ≤ x → x < n + positions p → Passed n p x
 passed (letter a) n x g l =
     let e : x ≡ n = omega arith in
     record { before = []; to = end e; few-before = omega arith; after = []; from = end e; few-after = omega arith }
@@ -116,17 +114,17 @@ passed (again k p) n x g l = passed-on (again-on k n p) (omega arith) (passed p 
 
 -- ---- ways are routes of the graph
 
-route : (p : Part) {u v : ℕ} {r : List ℕ} → Way 0 p u r v → Route (graphOf p) u r × Link 0 p (endOf u r) v
+pub route : (p : Part) {u v : ℕ} {r : List ℕ} → Way 0 p u r v → Route (graphOf p) u r × Link 0 p (endOf u r) v
 route p (end e) = (tt, e)
 route p {u} {v} (step {s = s} x e d k) =
     let t = route p k in
     subst (λ (i : ℕ). Route (graphOf p) u (i ∷ s) × Link 0 p (endOf i s) v) d ((link-position p u x e, next-link p u x .0 e, t .0), t .1)
 
-route-to : (p : Part) (u : ℕ) (r : List ℕ) (y : ℕ) → Route (graphOf p) u r → Link 0 p (endOf u r) (suc y) → Route (graphOf p) u (r ++ (suc y ∷ []))
+pub route-to : (p : Part) (u : ℕ) (r : List ℕ) (y : ℕ) → Route (graphOf p) u r → Link 0 p (endOf u r) (suc y) → Route (graphOf p) u (r ++ (suc y ∷ []))
 route-to p u [] y h e = (link-position p u y e, next-link p u y .0 e, tt)
 route-to p u (i ∷ r) y h e = (h .0, h .1, route-to p i r y (h .2) e)
 
-useful : (p : Part) (q : ℕ) → isPosition (graphOf p) q ≡ true → Useful (graphOf p) q
+pub useful : (p : Part) (q : ℕ) → isPosition (graphOf p) q ≡ true → Useful (graphOf p) q
 useful p zero h = absurd (omega (arith, position-of (graphOf p) 0 h))
 useful p (suc x) h =
     let i = position-of (graphOf p) (suc x) h in
@@ -151,15 +149,6 @@ some-letter [] j e l = absurd (omega arith)
 some-letter (a ∷ al) zero e l = not-false (someLetter (holds a)) (or-parts (not (someLetter (holds a))) (anyEmpty al) e .0)
 some-letter (a ∷ al) (suc j) e l = some-letter al j (or-parts (not (someLetter (holds a))) (anyEmpty al) e .1) (le-of-suc-le-suc l)
 
-lettered : (p : Part) → anyEmpty (atoms p) ≡ false → (i : ℕ) → isPosition (graphOf p) i ≡ true → someLetter (holds (atomAt p i)) ≡ true
+pub lettered : (p : Part) → anyEmpty (atoms p) ≡ false → (i : ℕ) → isPosition (graphOf p) i ≡ true → someLetter (holds (atomAt p i)) ≡ true
 lettered p e zero h = absurd (omega (arith, position-of (graphOf p) 0 h))
 lettered p e (suc j) h = let i = position-of (graphOf p) (suc j) h in some-letter (atoms p) j e (omega arith)
-
-pub trim : (b : List ℕ) → patternRefusal b ≡ 0 → Trim (graphOf (patternPart b))
-trim b e =
-    let p = patternPart b in
-    record {
-      letters = λ i c h. and-parts (isLetter c) _ h .0;
-      lettered = lettered p (refusal-none b e .none-empty);
-      useful = useful p;
-    }

@@ -1,10 +1,11 @@
--- Positions, and for each part whether it can be empty, its firsts, its lasts, and what may follow: the graph of a pattern.
+-- Positions, and for each part whether it can be empty, its firsts, its lasts, and the links: the graph of a pattern.
 use mathlib.Core.Bool.{Bool, false, _&&_, _||_}
 use mathlib.Core.List.{List, [], _∷_, _++_}
 use Prim.Native.Nat.{ℕ, zero, suc, _+_}
 use lib.Dec.{eqb}
 use lib.ListN.{length, getD}
-use Rattle.graph.specs.Graph.{Graph}
+use Rattle.basics.specs.Choice.{if_then_else_}
+use Rattle.graph.specs.Graph.{some, Graph}
 use Rattle.pattern.specs.Parts.{Atom, holds, skips, loops, Part, letter, either, joined, again}
 use Rattle.pattern.specs.Grammar.{noAtom, patternPart}
 
@@ -46,19 +47,24 @@ isLast n (either p q) x = isLast n p x || isLast (n + positions p) q x
 isLast n (joined p q) x = isLast (n + positions p) q x || (canBeEmpty q && isLast n p x)
 isLast n (again k p) x = isLast n p x
 
--- [Follows] may y come after x: in a joining a first of B after a last of A; with `*` and `+` a first of the atom after a last
+-- [Links] how many lead from x to y: in a joining one from a last of A to a first of B; with `*` and `+` one from a last of the atom
+-- to a first of it; and those within A and B, within the branches, within the atom
+abbrev pub links : ℕ → Part → ℕ → ℕ → ℕ
+links n (letter a) x y = 0
+links n (either p q) x y = links n p x y + links (n + positions p) q x y
+links n (joined p q) x y = links n p x y + (links (n + positions p) q x y + (if isLast n p x && isFirst (n + positions p) q y then 1 else 0))
+links n (again k p) x y = links n p x y + (if loops k && (isLast n p x && isFirst n p y) then 1 else 0)
+
+-- [Follows] may y come after x: does a link lead there
 abbrev pub follows : ℕ → Part → ℕ → ℕ → Bool
-follows n (letter a) x y = false
-follows n (either p q) x y = follows n p x y || follows (n + positions p) q x y
-follows n (joined p q) x y = follows n p x y || (follows (n + positions p) q x y || (isLast n p x && isFirst (n + positions p) q y))
-follows n (again k p) x y = follows n p x y || (loops k && (isLast n p x && isFirst n p y))
+follows n p x y = some (links n p x y)
 
 -- ---- [States] 0 before any letter, or a position
 
--- what may come next, and where a reading may end
-abbrev pub nextOf : Part → ℕ → ℕ → Bool
-nextOf p zero y = isFirst 0 p y
-nextOf p (suc x) y = follows 0 p (suc x) y
+-- how many links lead to a position, from 0 one to each first; and where a reading may end
+abbrev pub linksOf : Part → ℕ → ℕ → ℕ
+linksOf p zero y = if isFirst 0 p y then 1 else 0
+linksOf p (suc x) y = links 0 p (suc x) y
 
 abbrev pub lastOf : Part → ℕ → Bool
 lastOf p zero = canBeEmpty p
@@ -67,7 +73,7 @@ lastOf p (suc x) = isLast 0 p (suc x)
 abbrev pub graphOf : Part → Graph
 graphOf p = record {
   positions = positions p;
-  next = nextOf p;
+  links = linksOf p;
   last = lastOf p;
   holds = λ i b. holds (atomAt p i) b;
   credit = λ i. atomAt p i .credit;

@@ -12,7 +12,7 @@ use Rattle.basics.specs.Choice.{if_then_else_}
 use Rattle.basics.specs.Lists.{Each}
 use Rattle.basics.proofs.Tests.{and-when, same-test, if-yes, if-no}
 use Rattle.alphabet.specs.Alphabet.{allLetters}
-use Rattle.graph.specs.Graph.{noGraph, Bounded}
+use Rattle.graph.specs.Graph.{noGraph, Bounded, Single}
 use Rattle.graph.specs.Built.{graphOfBuilt}
 use Rattle.graph.proofs.Bounds.{none-bounded}
 use Rattle.pattern.specs.Grammar.{readPattern, isPattern, patternPart}
@@ -59,27 +59,37 @@ module _ (s : List ℕ) where
   Passes n = Each Fails (take n tests)
 
   -- the test number n applies and none before it
-  pub refuses : (n : ℕ) (r : ReadPattern) → Passes n → getD tests n false ≡ true → Refuses (3 + n) r → Reads s r
-  refuses n r h e w =
+  pub refuses : (n : ℕ) (more : List ℕ) (r : ReadPattern) → Passes n → getD tests n false ≡ true → Refuses (3 + n) r → Reads s more r
+  refuses n more r h e w =
       let is : patternRefusal s ≡ 3 + n = first-is 3 tests n h e in
       let none : builtGraph s ≡ noGraph = if-no (patternGraph s) noGraph (eqb (patternRefusal s) 0) (ne-eqb (patternRefusal s) 0 (λ z. omega arith)) in
-      record { refusal = w .refusal ∙ sym is; graph = w .graph ∙ sym none; bounded = subst Bounded (sym (w .graph)) none-bounded }
+      record {
+        refusal = w .refusal ∙ sym is;
+        graph = w .graph more ∙ sym none;
+        bounded = subst Bounded (sym (w .graph more)) none-bounded;
+        single = λ d. subst Single (sym (w .graph more)) (λ u i. refl);
+      }
 
   -- none applies
-  pub accepts : (r : ReadPattern) → Passes 6 → r .refusal ≡ 0 → graphOfBuilt (r .built) ≡ patternGraph s → Bounded (patternGraph s) → Reads s r
-  accepts r h z same bounds =
-      let is = first-none 3 tests h in
+  pub no-refusal : Passes 6 → patternRefusal s ≡ 0
+  no-refusal h = first-none 3 tests h
+
+  pub accepts : (more : List ℕ) (r : ReadPattern) → Passes 6 → r .refusal ≡ 0 → graphOfBuilt (r .built) more ≡ patternGraph s → Bounded (patternGraph s)
+      → (r .built .doubled ≡ false → Single (graphOfBuilt (r .built) more)) → Reads s more r
+  accepts more r h z same bounds single =
+      let is = no-refusal h in
       record {
         refusal = z ∙ sym is;
         graph = same ∙ sym (if-yes (patternGraph s) noGraph (eqb (patternRefusal s) 0) (eq-eqb (patternRefusal s) 0 is));
         bounded = subst Bounded (sym same) bounds;
+        single = single;
       }
 
 -- ---- the tests as the code has them
 
 -- what was read is good and ends with the text
-pub whole-pattern : (s rows sets credits : List ℕ) (p : Parsed) → ParsesAll s rows sets credits p → (p .good && eqb (p .at) (length s)) ≡ isPattern s
-whole-pattern s rows sets credits p r =
+pub whole-pattern : (s rows more sets credits : List ℕ) (p : Parsed) → ParsesAll s rows more sets credits p → (p .good && eqb (p .at) (length s)) ≡ isPattern s
+whole-pattern s rows more sets credits p r =
     let rest = readPattern s .rest in
     and-when (p .good) (eqb (p .at) (length s)) (eqb (length rest) 0)
     (λ g.

@@ -2,7 +2,7 @@
 use graph::Built;
 use parts::ParsedRows;
 ghost use mathlib.Core.Path.{_≡_};
-ghost use lib.ListN.{length};
+ghost use lib.ListN.{length, replicate};
 ghost use Rattle.set_table.specs.Table.{tableSize};
 ghost use Rattle.reader.specs.Read.{Reads, Refuses, Builds};
 
@@ -13,9 +13,11 @@ pub struct ReadPattern {
     pub built: Built,
 }
 
-// The first refusal that applies to s, or the pattern that it is, built.
-pub fn read(s: &[u8]) -> ReadPattern
-    ensures { λ r. ⌜ Reads (now (s .entry)) r ⌝ }
+// The first refusal that applies to s, or the pattern that it is, built, and in `more`, which has 0 in each entry before, the links
+// beyond the first: entry 61 * u + i is how many of them lead from state u to position i. At a refusal `more` means nothing.
+pub fn read(s: &[u8], more: &mut [u8]) -> ReadPattern
+    requires { ⌜ (now more) ≡ replicate 3721 0 ⌝ }
+    ensures { λ r. ⌜ Reads (now (s .entry)) (now (more .exit)) r ⌝ }
 {
     if s.len() > 512 {
         return refused(3);
@@ -25,7 +27,7 @@ pub fn read(s: &[u8]) -> ReadPattern
     }
     let mut sets = set_table::empty();
     let mut credits = [0u8; 61];
-    let p = parts::parse(s, &mut sets, &mut credits);
+    let p = parts::parse(s, &mut sets, &mut credits, more);
     let part = p.part;
     if !(part.good & (part.at == s.len())) {
         return refused(5);
@@ -56,6 +58,7 @@ fn refused(refusal: u8) -> ReadPattern
     let built = Built {
         positions: 0,
         follow: rows,
+        doubled: false,
         lasts: 0,
         letters: sets,
         credits: credits,
@@ -79,6 +82,7 @@ fn built(p: ParsedRows, sets: &[u64], credits: [u8; 61]) -> Built
     Built {
         positions: part.n,
         follow: follow,
+        doubled: part.doubled,
         lasts: bits::with_if(part.lasts, 0, part.empty),
         letters: letters,
         credits: credits,

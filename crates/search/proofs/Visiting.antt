@@ -165,28 +165,28 @@ begun E T s x long node takes =
 
 -- ---- over rows
 
-module _ {F S s : List ℕ} {h t alone : ℕ} {seen : List ℕ} (sound : SoundSearch F S s h t alone seen) where
+module _ {F D S s : List ℕ} {h t alone : ℕ} {seen : List ℕ} (sound : SoundSearch F D S s h t alone seen) where
   pub few-taken : t ≤ 1891
   few-taken = few-nodes (sound .queue)
 
-  pub passed-on : h < t → {r : ℕ} → Finds F S alone seen (queue s h) r → 4096 ≤ r → SoundSearch F S s (h + 1) t alone seen
+  pub passed-on : h < t → {r : ℕ} → Finds F D S alone seen (queue s h) r → 4096 ≤ r → SoundSearch F D S s (h + 1) t alone seen
   passed-on l {r} f k = record {
-    queue = passed (sound .queue) l (λ y q. (step-node F S (queue s h) y q, spent alone seen (sound .even) F S (queue s h) r y f k (sound .queue .nodes h l) q));
+    queue = passed (sound .queue) l (λ y q. (step-node F D S (queue s h) y q, spent alone seen (sound .even) F D S (queue s h) r y f k (sound .queue .nodes h l) q));
     even = sound .even;
   }
 
   -- what a visit that takes a node up leaves
-  pub took : {s0 s′ seen′ : List ℕ} {goal : Goal} {y m : ℕ} {found : Bool} → s ≡ s0 → h < t → Fresh F S alone seen (queue s h) y → s′ ≡ enqueue s y h t → found ≡ isGoal goal y
-      → TakenUp seen seen′ alone y m → Visited F S s0 s′ seen′ goal t (record { head = h; tail = t + 1; found = found; alone = m })
+  pub took : {s0 s′ seen′ : List ℕ} {goal : Goal} {y m : ℕ} {found : Bool} → s ≡ s0 → h < t → Fresh F D S alone seen (queue s h) y → s′ ≡ enqueue s y h t → found ≡ isGoal goal y
+      → TakenUp seen seen′ alone y m → Visited F D S s0 s′ seen′ goal t (record { head = h; tail = t + 1; found = found; alone = m })
   took {seen′ = seen′} {goal = goal} {y = y} {m = m} same l f e g up =
-      let q = fresh alone seen (sound .even) F S (queue s h) y f in
-      let node = step-node F S (queue s h) y (q .0) in
+      let q = fresh alone seen (sound .even) F D S (queue s h) y f in
+      let node = step-node F D S (queue s h) y (q .0) in
       let T′ = taken m seen′ in
       let w = enqueued (sound .queue) T′ y l (q .0) node (q .1) (up .takes (sound .even)) in
       let low = few-taken in
       let last = up-last s y h t (sound .queue .long) (omega arith) in
       record {
-        sound = record { queue = subst (λ (x : List ℕ). SoundQueue (Step F S) T′ x h (t + 1)) (sym e) w; even = up .even (sound .even) };
+        sound = record { queue = subst (λ (x : List ℕ). SoundQueue (Step F D S) T′ x h (t + 1)) (sym e) w; even = up .even (sound .even) };
         kept = λ i k. ap (λ (x : List ℕ). queue x i) e ∙ up-before s y h t (sound .queue .long) (omega arith) i k ∙ ap (λ (x : List ℕ). queue x i) same;
         outcome = inl (refl, g ∙ ap (isGoal goal) (sym (ap (λ (x : List ℕ). queue x t) e ∙ last)));
       }
@@ -195,11 +195,11 @@ module _ {F S s : List ℕ} {h t alone : ℕ} {seen : List ℕ} (sound : SoundSe
 
 -- the first node is all that is taken up
 pub search-begin : (s : List ℕ) (goal : Goal) (start m : ℕ) (found : Bool) → 4096 ≤ length s → start ≤ 60 → ((j : ℕ) → hasBit m j ≡ eqb start j) → found ≡ isGoal goal start
-    → (F S s′ : List ℕ) → s′ ≡ enqueue s start 0 0 → Searching F S s′ (replicate 61 0) goal start (record { head = 0; tail = 1; found = found; alone = m })
-search-begin s goal start m found long low only g F S s′ e =
+    → (F D S s′ : List ℕ) → s′ ≡ enqueue s start 0 0 → Searching F D S s′ (replicate 61 0) goal start (record { head = 0; tail = 1; found = found; alone = m })
+search-begin s goal start m found long low only g F D S s′ e =
     let first : queue s′ 0 ≡ start = ap (λ (x : List ℕ). queue x 0) e ∙ up-last s start 0 0 long (omega arith) in
     record {
-      sound = record { queue = subst (λ (x : List ℕ). SoundQueue (Step F S) (taken m (replicate 61 0)) x 0 1) (sym e) (begun (Step F S) (taken m (replicate 61 0)) s start long (one {a = start} low) takes); even = none-even };
+      sound = record { queue = subst (λ (x : List ℕ). SoundQueue (Step F D S) (taken m (replicate 61 0)) x 0 1) (sym e) (begun (Step F D S) (taken m (replicate 61 0)) s start long (one {a = start} low) takes); even = none-even };
       first = first;
       some = λ f. ap (isGoal goal) first ∙ sym g ∙ f;
       none = λ f i l. let z : i ≡ 0 = omega arith in ap (λ (k : ℕ). isGoal goal (queue s′ k)) z ∙ ap (isGoal goal) first ∙ sym g ∙ f;
@@ -215,8 +215,8 @@ search-begin s goal start m found long low only g F S s′ e =
     takes z (one {a} l) = taken-low m (replicate 61 0) a (omega arith) ∙ only a
     takes z (two {a} {b} l k n) = taken-high m (replicate 61 0) (a * 64 + b) (omega arith) ∙ row ((a * 64 + b) / 64) ((a * 64 + b) % 64) ∙ sym (ne-eqb start (a * 64 + b) (λ y. omega arith))
 
-module _ {F S s s′ seen seen′ : List ℕ} {goal : Goal} {start : ℕ} {w r : Search} (a : Searching F S s seen goal start w) (none : w .found ≡ false) (v : Visited F S s s′ seen′ goal (w .tail) r) where
-  pub search-next : Searching F S s′ seen′ goal start r
+module _ {F D S s s′ seen seen′ : List ℕ} {goal : Goal} {start : ℕ} {w r : Search} (a : Searching F D S s seen goal start w) (none : w .found ≡ false) (v : Visited F D S s s′ seen′ goal (w .tail) r) where
+  pub search-next : Searching F D S s′ seen′ goal start r
   search-next =
       let t = w .tail in
       let old : (i : ℕ) → i < t → isGoal goal (queue s′ i) ≡ false = λ i l. ap (isGoal goal) (v .kept i l) ∙ a .none none i l in

@@ -38,9 +38,9 @@ pub record SoundQueue (E : ℕ → ℕ → Type 0) (isTaken : ℕ → Bool) (s :
   pub back : (i : ℕ) → 0 < i → i < tail → (backOf s i < i) × E (queue s (backOf s i)) (queue s i)
   pub closed : (i : ℕ) → i < head → (y : ℕ) → E (queue s i) y → Queued s tail y
 
--- such a queue for the steps over the rows F and S, and pairs taken up in both of their rows
-pub record SoundSearch (F S s : List ℕ) (head tail alone : ℕ) (seen : List ℕ) : Type 0 where
-  pub queue : SoundQueue (Step F S) (taken alone seen) s head tail
+-- such a queue for the steps over the rows F, D and S, and pairs taken up in both of their rows
+pub record SoundSearch (F D S s : List ℕ) (head tail alone : ℕ) (seen : List ℕ) : Type 0 where
+  pub queue : SoundQueue (Step F D S) (taken alone seen) s head tail
   pub even : Even seen
 
 -- the queue with y at its end, taken up from the one at `from`
@@ -54,25 +54,25 @@ isGoal goal x =
     else hasBit (goal .mask) (x / 64) && hasBit (goal .mask) (x % 64)
 
 -- a visit of a search of `tail` nodes: one more is taken up, or the search is over
-pub record Visited (F S s s′ seen′ : List ℕ) (goal : Goal) (tail : ℕ) (r : Search) : Type 0 where
-  pub sound : SoundSearch F S s′ (r .head) (r .tail) (r .alone) seen′
+pub record Visited (F D S s s′ seen′ : List ℕ) (goal : Goal) (tail : ℕ) (r : Search) : Type 0 where
+  pub sound : SoundSearch F D S s′ (r .head) (r .tail) (r .alone) seen′
   pub kept : (i : ℕ) → i < tail → queue s′ i ≡ queue s i
   pub outcome : ((r .tail ≡ tail + 1) × (r .found ≡ isGoal goal (queue s′ tail))) ⊎ ((r .tail ≡ tail) × (r .head ≡ r .tail) × (r .found ≡ false))
 
 -- a visit of any queue: it takes one node up, or the search is over; where the queue is that of a search, the search goes on
-pub record Tried (F S s s′ seen seen′ : List ℕ) (goal : Goal) (w r : Search) : Type 0 where
+pub record Tried (F D S s s′ seen seen′ : List ℕ) (goal : Goal) (w r : Search) : Type 0 where
   pub ends : (r .tail ≡ w .tail + 1) ⊎ ((r .tail ≡ w .tail) × (r .tail ≤ r .head))
-  pub right : SoundSearch F S s (w .head) (w .tail) (w .alone) seen → Visited F S s s′ seen′ goal (w .tail) r
+  pub right : SoundSearch F D S s (w .head) (w .tail) (w .alone) seen → Visited F D S s s′ seen′ goal (w .tail) r
 
 -- a search under way: only the last node taken up may be a goal, and `found` says whether it is
-pub record Searching (F S s seen : List ℕ) (goal : Goal) (start : ℕ) (w : Search) : Type 0 where
-  pub sound : SoundSearch F S s (w .head) (w .tail) (w .alone) seen
+pub record Searching (F D S s seen : List ℕ) (goal : Goal) (start : ℕ) (w : Search) : Type 0 where
+  pub sound : SoundSearch F D S s (w .head) (w .tail) (w .alone) seen
   pub first : queue s 0 ≡ start
   pub some : w .found ≡ true → isGoal goal (queue s (w .tail - 1)) ≡ true
   pub none : w .found ≡ false → (i : ℕ) → i < w .tail → isGoal goal (queue s i) ≡ false
 
 -- a search that is over, with the rows of pairs that it leaves
-pub record Searched (F S s : List ℕ) (goal : Goal) (start : ℕ) (w : Search) : Type 0 where
+pub record Searched (F D S s : List ℕ) (goal : Goal) (start : ℕ) (w : Search) : Type 0 where
   pub seen : List ℕ
-  pub searching : Searching F S s seen goal start w
+  pub searching : Searching F D S s seen goal start w
   pub over : w .found ≡ false → w .head ≡ w .tail

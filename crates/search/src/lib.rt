@@ -7,7 +7,7 @@ ghost use lib.ListN.{length, replicate};
 ghost use Rattle.graph.specs.Graph.{Graph};
 ghost use Rattle.verdict.specs.Verdict.{firstPivot};
 ghost use Rattle.search.specs.Search.{enqueue, isGoal, Tried, Searching, Searched};
-ghost use Rattle.shares.specs.Tables.{Rows, Shares};
+ghost use Rattle.shares.specs.Tables.{Rows, Doubles, Shares};
 
 // A search under way. `head` and `tail` bound the queue of nodes taken up whose steps are still to be gone through. `alone` has the
 // states taken up. The pairs taken up are in rows beside it, `seen`, which are lent and not copied.
@@ -31,18 +31,19 @@ pub const BACK: usize = 2048;
 // The search from a state to a goal. Where one is found, it is the last node of the queue.
 pub fn to_goal<'a>(
     follow: &'a [u64; 61],
+    doubles: &'a [u64; 61],
     shares: &'a [u64; 61],
     scratch: &mut [u16],
     goal: Goal,
     start: usize,
 ) -> Search
     requires { ⌜ (4096 ≤ length (now scratch)) × (start ≤ 60) ⌝ }
-    ensures { λ r. ⌜ Searched (now (follow .entry)) (now (shares .entry)) (now (scratch .exit)) goal start r ⌝ }
+    ensures { λ r. ⌜ Searched (now (follow .entry)) (now (doubles .entry)) (now (shares .entry)) (now (scratch .exit)) goal start r ⌝ }
 {
     let mut seen = [0u64; 61];
     let mut w = begin(&mut *scratch, goal, start);
     while w.head < w.tail && !w.found {
-        w = visit(follow, shares, &mut seen, &mut *scratch, goal, w);
+        w = visit(follow, doubles, shares, &mut seen, &mut *scratch, goal, w);
     }
     w
 }
@@ -50,12 +51,13 @@ pub fn to_goal<'a>(
 // The first position with two different loops back to itself over one text, 0 where there is none.
 pub fn first_pivot<'a>(
     follow: &'a [u64; 61],
+    doubles: &'a [u64; 61],
     shares: &'a [u64; 61],
     scratch: &mut [u16],
     positions: usize,
 ) -> usize
     requires { ⌜ (4096 ≤ length (now scratch)) × (positions ≤ 60) ⌝ }
-    ensures { λ r. ⌜ ((g : Graph) → Rows g (now (follow .entry)) → Shares g (now (shares .entry)) → g .positions ≡ positions → firstPivot g ≡ r) ⌝ }
+    ensures { λ r. ⌜ ((g : Graph) → Rows g (now (follow .entry)) → Doubles g (now (doubles .entry)) → Shares g (now (shares .entry)) → g .positions ≡ positions → firstPivot g ≡ r) ⌝ }
 {
     let mut q: usize = 1;
     let mut at: usize = 0;
@@ -67,7 +69,7 @@ pub fn first_pivot<'a>(
         let mut seen = [0u64; 61];
         let mut w = begin(&mut *scratch, goal, q);
         while w.head < w.tail {
-            w = visit(follow, shares, &mut seen, &mut *scratch, goal, w);
+            w = visit(follow, doubles, shares, &mut seen, &mut *scratch, goal, w);
             if w.found {
                 at = q;
                 break 'pivots;
@@ -81,7 +83,7 @@ pub fn first_pivot<'a>(
 // A search that has taken up its first node, and no pair.
 fn begin(scratch: &mut [u16], goal: Goal, start: usize) -> Search
     requires { ⌜ (4096 ≤ length (now scratch)) × (start ≤ 60) ⌝ }
-    ensures { λ r. ⌜ ((F S : List ℕ) → Searching F S (now (scratch .exit)) (replicate 61 0) goal start r) × (r .found ≡ isGoal goal start) ⌝ }
+    ensures { λ r. ⌜ ((F D S : List ℕ) → Searching F D S (now (scratch .exit)) (replicate 61 0) goal start r) × (r .found ≡ isGoal goal start) ⌝ }
 {
     push(&mut *scratch, 0, start, 0);
     Search {
@@ -96,6 +98,7 @@ fn begin(scratch: &mut [u16], goal: Goal, start: usize) -> Search
 // passed. It is safe and ends whatever w and the lent numbers hold.
 fn visit<'a>(
     follow: &'a [u64; 61],
+    doubles: &'a [u64; 61],
     shares: &'a [u64; 61],
     seen: &mut [u64; 61],
     scratch: &mut [u16],
@@ -103,7 +106,7 @@ fn visit<'a>(
     w: Search,
 ) -> Search
     requires { ⌜ 4096 ≤ length (now scratch) ⌝ }
-    ensures { λ r. ⌜ Tried (now (follow .entry)) (now (shares .entry)) (now (scratch .entry)) (now (scratch .exit)) (now (seen .entry)) (now (seen .exit)) goal w r ⌝ }
+    ensures { λ r. ⌜ Tried (now (follow .entry)) (now (doubles .entry)) (now (shares .entry)) (now (scratch .entry)) (now (scratch .exit)) (now (seen .entry)) (now (seen .exit)) goal w r ⌝ }
 {
     let tail = w.tail;
     let mut head = w.head;
@@ -118,7 +121,7 @@ fn visit<'a>(
     }
     while head < tail {
         let x = scratch[head] as usize;
-        let y = nodes::next_new(follow, shares, &*seen, alone, x);
+        let y = nodes::next_new(follow, doubles, shares, &*seen, alone, x);
         if y < nodes::NONE {
             push(&mut *scratch, tail, y, head);
             return Search {

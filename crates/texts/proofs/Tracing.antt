@@ -160,8 +160,8 @@ leads-back i w l = let few = w .few in record { long = w .long; few = omega arit
 
 -- ---- a search that found its goal, with the text of the way to it
 
-module _ {F S s : List ℕ} {goal : Goal} {u : ℕ} {w : Search} (over : Searched F S s goal u w) where
-  sound : SoundQueue (Step F S) (taken (w .alone) (over .seen)) s (w .head) (w .tail)
+module _ {F D S s : List ℕ} {goal : Goal} {u : ℕ} {w : Search} (over : Searched F D S s goal u w) where
+  sound : SoundQueue (Step F D S) (taken (w .alone) (over .seen)) s (w .head) (w .tail)
   sound = over .searching .sound .queue
 
   last-in : w .tail - 1 < w .tail
@@ -173,16 +173,16 @@ module _ {F S s : List ℕ} {goal : Goal} {u : ℕ} {w : Search} (over : Searche
   pub found-few : w .tail - 1 ≤ 1890
   found-few = omega (arith, few-nodes sound)
 
-  pub found-steps : (P : ℕ → Type 0) → ((x y : ℕ) → Step F S x y → P y) → (j : ℕ) → 0 < j → j ≤ w .tail - 1 → P (queue s j)
+  pub found-steps : (P : ℕ → Type 0) → ((x y : ℕ) → Step F D S x y → P y) → (j : ℕ) → 0 < j → j ≤ w .tail - 1 → P (queue s j)
   found-steps P f j l k = f (queue s (backOf s j)) (queue s j) (sound .back j l (omega (arith, last-in)) .1)
 
-  pub shown-text : {sets : List LetterSet} {e e′ : List ℕ} {base n : ℕ} → w .found ≡ true → n ≤ w .tail - 1 → Traced sets s e e′ (w .tail - 1) base n → ShownText sets F S e e′ goal u base n
+  pub shown-text : {sets : List LetterSet} {e e′ : List ℕ} {base n : ℕ} → w .found ≡ true → n ≤ w .tail - 1 → Traced sets s e e′ (w .tail - 1) base n → ShownText sets F D S e e′ goal u base n
   shown-text f l tr =
       let r = along sound (w .tail - 1) 0 (tr .nodes) last-in (tr .way) in
       let first = over .searching .first in
       record {
         nodes = tr .nodes;
-        goes = subst (λ (x : ℕ). Chain (Step F S) x (tr .nodes)) first (r .goes);
+        goes = subst (λ (x : ℕ). Chain (Step F D S) x (tr .nodes)) first (r .goes);
         apart = r .apart;
         meets = ap (λ (x : ℕ). isGoal goal (endOf x (tr .nodes))) (sym first) ∙ ap (isGoal goal) (r .ends) ∙ over .searching .some f;
         size = tr .size;

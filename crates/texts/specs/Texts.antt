@@ -53,16 +53,16 @@ pub record Traced (sets : List LetterSet) (s e e′ : List ℕ) (i base n : ℕ)
 
 -- ---- a search with its text: r letters written at base, or 4096 and nothing written where no goal is found
 
-pub record ShownText (sets : List LetterSet) (F S e e′ : List ℕ) (goal : Goal) (start base r : ℕ) : Type 0 where
+pub record ShownText (sets : List LetterSet) (F D S e e′ : List ℕ) (goal : Goal) (start base r : ℕ) : Type 0 where
   pub nodes : List ℕ
-  pub goes : Chain (Step F S) start nodes
+  pub goes : Chain (Step F D S) start nodes
   pub apart : Apart nodes
   pub meets : isGoal goal (endOf start nodes) ≡ true
   pub size : length nodes ≡ r
   pub few : r ≤ 1890
   pub text : e′ ≡ written sets e base r nodes
 
-pub record Shown (sets : List LetterSet) (F S e e′ : List ℕ) (goal : Goal) (start base r : ℕ) : Type 0 where
+pub record Shown (sets : List LetterSet) (F D S e e′ : List ℕ) (goal : Goal) (start base r : ℕ) : Type 0 where
   pub top : r ≤ 4096
-  pub some : r < 4096 → ShownText sets F S e e′ goal start base r
-  pub none : 4096 ≤ r → (e′ ≡ e) × ((nodes : List ℕ) → Chain (Step F S) start nodes → isGoal goal (endOf start nodes) ≡ false)
+  pub some : r < 4096 → ShownText sets F D S e e′ goal start base r
+  pub none : 4096 ≤ r → (e′ ≡ e) × ((nodes : List ℕ) → Chain (Step F D S) start nodes → isGoal goal (endOf start nodes) ≡ false)

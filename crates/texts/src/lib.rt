@@ -15,6 +15,7 @@ pub const NO_TEXT: usize = 4096;
 // Searches, and writes the text of the way to the goal at base: its length, or NO_TEXT where there is no goal.
 pub fn show<'a>(
     follow: &'a [u64; 61],
+    doubles: &'a [u64; 61],
     shares: &'a [u64; 61],
     sets: [LetterSet; 61],
     scratch: &mut [u16],
@@ -23,10 +24,10 @@ pub fn show<'a>(
     start: usize,
     base: usize,
 ) -> usize
-    requires { ⌜ (4096 ≤ length (now scratch)) × (start ≤ 60) × (base + 1890 ≤ length (now evidence)) × Lettered sets × ((x y : ℕ) → Step (now follow) (now shares) x y → Showable sets y) ⌝ }
-    ensures { λ r. ⌜ Shown sets (now (follow .entry)) (now (shares .entry)) (now (evidence .entry)) (now (evidence .exit)) goal start base r ⌝ }
+    requires { ⌜ (4096 ≤ length (now scratch)) × (start ≤ 60) × (base + 1890 ≤ length (now evidence)) × Lettered sets × ((x y : ℕ) → Step (now follow) (now doubles) (now shares) x y → Showable sets y) ⌝ }
+    ensures { λ r. ⌜ Shown sets (now (follow .entry)) (now (doubles .entry)) (now (shares .entry)) (now (evidence .entry)) (now (evidence .exit)) goal start base r ⌝ }
 {
-    let w = search::to_goal(follow, shares, &mut *scratch, goal, start);
+    let w = search::to_goal(follow, doubles, shares, &mut *scratch, goal, start);
     if !w.found {
         return NO_TEXT;
     }

@@ -1,29 +1,29 @@
 -- What each verdict says of the number of readings of every text. Assumes nothing.
-use mathlib.Core.Path.{_≡_, ap, _∙_, subst}
+use mathlib.Core.Path.{_≡_, sym, ap, _∙_, subst}
 use mathlib.Core.Logic.{_↔_}
 use mathlib.Core.Bool.{true, false, not}
-use mathlib.Core.List.{List, [], _∷_, _++_, append-nil}
+use mathlib.Core.List.{List, [], _∷_, _++_, map, append-nil}
 use Prim.Native.Nat.{ℕ, _+_, _*_, _^_, _≤_}
 use native.Mathlib.Nat.{le-refl}
 use native.Mathlib.Omega.{arith}
 use lib.Dec.{eqb}
-use lib.ListN.{length}
+use lib.ListN.{length, length-map}
 use borrow.Author.Tests.{eq-eqb, ne-eqb}
 use Rattle.basics.specs.Choice.{if_then_else_}
 use Rattle.basics.specs.Lists.{Each, Apart}
 use Rattle.basics.proofs.Tests.{by-test, by-equal, if-yes, if-no}
-use Rattle.basics.proofs.Lists.{each-map}
+use Rattle.basics.proofs.Lists.{each-map, map-each, map-apart}
 use Rattle.alphabet.specs.Alphabet.{allLetters}
 use Rattle.graph.specs.Graph.{Graph}
-use Rattle.graph.specs.Readings.{isReading, readings}
-use Rattle.graph.proofs.Walks.{Walk, Reads, reads-walk, walk-reads}
+use Rattle.graph.specs.Readings.{Transition, path, isReading, readings}
+use Rattle.graph.proofs.Walks.{Walk, plain, Goes, Reads, reads-goes, goes-reads, takes-single}
 use Rattle.graph.proofs.Counting.{readings-most, readings-bound, two-count}
 use Rattle.graph.specs.Trim.{Trim}
 use Rattle.verdict.specs.Verdict.{ambiguous, firstPivot, verdict}
 use Rattle.verdict.specs.Evidence.{times, ShowsSteady, ShowsRunaway}
 use Rattle.verdict.proofs.Steady.{steady}
 use Rattle.verdict.proofs.Doubling.{doubling}
-use Rattle.verdict.proofs.Pivots.{no-pivot}
+use Rattle.verdict.proofs.Pivots.{no-loops, no-doubled}
 use Rattle.verdict.proofs.Shows.{unambiguous, steady-shows, runaway-shows, runaway-rounds}
 
 -- ---- the three verdicts
@@ -60,7 +60,7 @@ runaway-shown g x y z r k =
     let t = x ++ (times k y ++ z) in
     let m = doubling g x y z (runaway-rounds g x y z r) k in
     subst (λ (n : ℕ). n ≤ readings g t) (m .size)
-    (readings-most g t (m .all) (m .apart) (each-map (Reads g 0 t) (λ (q : List ℕ). isReading g t q ≡ true) (walk-reads g 0 t) (m .all) (m .each)))
+    (readings-most g t (m .all) (m .apart) (each-map (Reads g 0 t) (λ (q : List Transition). isReading g t q ≡ true) (goes-reads g 0 t) (m .all) (m .each)))
 
 -- ---- what follows for every text
 
@@ -73,7 +73,7 @@ at-most-one P same (x ∷ (y ∷ xs)) a h = absurd (a .0 .0 (same x y (h .0) (h 
 module _ (g : Graph) (trim : Trim g) where
   -- single: no text has two readings
   single-most : ambiguous g ≡ false → (s : List ℕ) → readings g s ≤ 1
-  single-most a s = readings-bound g s 1 (at-most-one (λ (r : List ℕ). isReading g s r ≡ true) (unambiguous g trim a s))
+  single-most a s = readings-bound g s 1 (at-most-one (λ (r : List Transition). isReading g s r ≡ true) (unambiguous g trim a s))
 
   pub single : (verdict g ≡ 0) ↔ ((s : List ℕ) → allLetters s ≡ true → readings g s ≤ 1)
   single = (
@@ -91,12 +91,19 @@ module _ (g : Graph) (trim : Trim g) where
         absurd (omega arith)),
   )
 
-  -- not runaway: a text of m letters has at most (m + 2) ^ (2 p)
+  -- not runaway: a text of m letters has at most (m + 2) ^ (2 p), since links are single and readings are told by their positions
   pub bounded : (verdict g ≡ 2 → ⊥) → (s : List ℕ) → readings g s ≤ (length s + 2) ^ (2 * g .positions)
   bounded n s =
       let e : firstPivot g ≡ 0 = by-equal (firstPivot g) 0 (λ z. z) (λ d. absurd (n (is-runaway g d))) in
+      let single = no-doubled g trim e in
       readings-bound g s ((length s + 2) ^ (2 * g .positions))
-      (λ rs a h. steady g (no-pivot g trim e) 0 s rs a (each-map (λ (r : List ℕ). isReading g s r ≡ true) (Walk g 0 s) (λ r k. reads-walk g 0 s r k .0) rs h))
+      (λ rs a h.
+      let all = each-map (λ (r : List Transition). isReading g s r ≡ true) (Goes g 0 s) (λ r k. reads-goes g 0 s r k .0) rs h in
+      let told : (r q : List Transition) → Goes g 0 s r → Goes g 0 s q → path r ≡ path q → r ≡ q =
+      λ r q x y z. takes-single g single 0 r (x .1) ∙ ap plain z ∙ sym (takes-single g single 0 q (y .1)) in
+      subst (λ (k : ℕ). k ≤ (length s + 2) ^ (2 * g .positions)) (length-map rs path)
+      (steady g (no-loops g trim e) 0 s (map path rs) (map-apart path (Goes g 0 s) told rs a all)
+      (map-each path (Walk g 0 s) rs (each-map (Goes g 0 s) (λ (r : List Transition). Walk g 0 s (path r)) (λ r k. k .0) rs all))))
 
   -- steady: there is a text to show
   pub steady-can : verdict g ≡ 1 → (s : List ℕ) × ShowsSteady g s

@@ -6,6 +6,7 @@ pub mod Pairs
 pub mod Reached
 pub mod Flags
 pub mod Parting
+pub mod Routes
 pub mod Pivots
 pub mod Shows
 pub mod Bounds

@@ -1,4 +1,4 @@
--- Two walks over one text, side by side, are one chain of pairs, and a chain of pairs is two walks over the text shown for it:
+-- A step of two walks over one text, side by side, is one of pairs, and a chain of pairs is two walks over the text shown for it:
 -- at each step the lowest letter that both sets hold. Assumes nothing.
 use mathlib.Core.Path.{_≡_, refl, sym, ap, _∙_}
 use mathlib.Core.Bool.{true}
@@ -10,7 +10,7 @@ use Rattle.basics.specs.Lists.{Chain}
 use Rattle.basics.proofs.Tests.{and-parts, and-of}
 use Rattle.alphabet.specs.Alphabet.{isLetter, allLetters}
 use Rattle.alphabet.proofs.Alphabet.{lowest-letter, letter-some}
-use Rattle.graph.specs.Graph.{Graph, isPosition, step}
+use Rattle.graph.specs.Graph.{Graph, isPosition, next, step}
 use Rattle.graph.proofs.Walks.{Walk, position-of, step-parts, step-of}
 use Rattle.verdict.specs.Pairs.{Pair, pair, bothHold, shares, letterShown}
 use Rattle.verdict.specs.Evidence.{shown}
@@ -36,8 +36,8 @@ module _ (g : Graph) where
   -- one letter on, both paths can move from t to u
   pub record Beside (t u : Pair) : Type 0 where
     pub placed : Placed u
-    pub left-next : g .next (t .left) (u .left) ≡ true
-    pub right-next : g .next (t .right) (u .right) ≡ true
+    pub left-next : next g (t .left) (u .left) ≡ true
+    pub right-next : next g (t .right) (u .right) ≡ true
     pub share : shares g (u .left) (u .right) ≡ true
 
   -- ---- positions told apart by numbers below p, pairs of them by numbers below p * p
@@ -77,31 +77,19 @@ module _ (g : Graph) where
   pub right-walk : (t : Pair) (c : List Pair) → Chain Beside t c → Walk g (t .right) (shown g (lefts c) (rights c)) (rights c)
   right-walk = side-walk (λ t. t .right) (λ t u b. step-of g (t .right) (letterShown g (u .left) (u .right)) (u .right) (b .placed .1) (b .right-next) (shown-held t u b .1))
 
-  -- ---- two walks over one text are a chain, where sets hold letters only
-
-  pub record Together (t : Pair) (r u : List ℕ) : Type 0 where
-    pub pairs : List Pair
-    pub goes : Chain Beside t pairs
-    pub left : lefts pairs ≡ r
-    pub right : rights pairs ≡ u
+  -- ---- where sets hold letters only
 
   module _ (letters : (i c : ℕ) → g .holds i c ≡ true → isLetter c ≡ true) where
-    pub together : (t : Pair) (s r u : List ℕ) → Walk g (t .left) s r → Walk g (t .right) s u → Together t r u
-    together t [] [] [] w v = record { pairs = []; goes = tt; left = refl; right = refl }
-    together t [] [] (j ∷ u) w v = absurd v
-    together t [] (i ∷ r) u w v = absurd w
-    together t (c ∷ s) [] u w v = absurd w
-    together t (c ∷ s) (i ∷ r) [] w v = absurd v
-    together t (c ∷ s) (i ∷ r) (j ∷ u) w v =
-        let x = step-parts g (t .left) c i (w .0) in
-        let y = step-parts g (t .right) c j (v .0) in
-        let rest = together (pair i j) s r u (w .1) (v .1) in
-        let share = letter-some (bothHold g i j) c (letters i c (x .2)) (and-of (g .holds i c) (g .holds j c) (x .2) (y .2)) in
+    -- two steps by one letter are one of the pair
+    pub besides : (t : Pair) (c i j : ℕ) → step g (t .left) c i ≡ true → step g (t .right) c j ≡ true → Beside t (pair i j)
+    besides t c i j w v =
+        let x = step-parts g (t .left) c i w in
+        let y = step-parts g (t .right) c j v in
         record {
-          pairs = pair i j ∷ rest .pairs;
-          goes = (record { placed = (x .0, y .0); left-next = x .1; right-next = y .1; share = share }, rest .goes);
-          left = ap (λ (l : List ℕ). i ∷ l) (rest .left);
-          right = ap (λ (l : List ℕ). j ∷ l) (rest .right);
+          placed = (x .0, y .0);
+          left-next = x .1;
+          right-next = y .1;
+          share = letter-some (bothHold g i j) c (letters i c (x .2)) (and-of (g .holds i c) (g .holds j c) (x .2) (y .2));
         }
 
     -- a walk's text is of letters

@@ -13,7 +13,7 @@ use Rattle.basics.specs.Folds.{anyIf}
 use Rattle.basics.specs.Lists.{endOf, Chain}
 use Rattle.basics.proofs.Tests.{and-parts, and-of, or-left, or-right, or-cases, by-equal}
 use Rattle.basics.proofs.Folds.{any-found, any-true}
-use Rattle.graph.specs.Graph.{Graph, isPosition}
+use Rattle.graph.specs.Graph.{Graph, isPosition, next}
 use Rattle.graph.proofs.Walks.{position-of}
 use Rattle.verdict.specs.Pairs.{Pair, pair, shares, somePair, beside, reached}
 use Rattle.verdict.specs.Verdict.{reaches}
@@ -43,14 +43,14 @@ module _ (g : Graph) where
 
   to-beside : (t u : Pair) → Placed g u → beside g t (u .left) (u .right) ≡ true → Beside g t u
   to-beside t u h e =
-      let x = and-parts (g .next (t .left) (u .left)) (g .next (t .right) (u .right) && shares g (u .left) (u .right)) e in
-      let y = and-parts (g .next (t .right) (u .right)) (shares g (u .left) (u .right)) (x .1) in
+      let x = and-parts (next g (t .left) (u .left)) (next g (t .right) (u .right) && shares g (u .left) (u .right)) e in
+      let y = and-parts (next g (t .right) (u .right)) (shares g (u .left) (u .right)) (x .1) in
       record { placed = h; left-next = x .0; right-next = y .0; share = y .1 }
 
   of-beside : (t u : Pair) → Beside g t u → beside g t (u .left) (u .right) ≡ true
   of-beside t u b =
-      and-of (g .next (t .left) (u .left)) (g .next (t .right) (u .right) && shares g (u .left) (u .right)) (b .left-next)
-      (and-of (g .next (t .right) (u .right)) (shares g (u .left) (u .right)) (b .right-next) (b .share))
+      and-of (next g (t .left) (u .left)) (next g (t .right) (u .right) && shares g (u .left) (u .right)) (b .left-next)
+      (and-of (next g (t .right) (u .right)) (shares g (u .left) (u .right)) (b .right-next) (b .share))
 
   -- ---- at most k steps
 

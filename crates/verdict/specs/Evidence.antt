@@ -7,11 +7,11 @@ use lib.ListN.{length}
 use Rattle.basics.specs.Lists.{endOf}
 use Rattle.alphabet.specs.Alphabet.{allLetters}
 use Rattle.graph.specs.Graph.{Graph}
-use Rattle.graph.specs.Readings.{isReading}
+use Rattle.graph.specs.Readings.{Transition, path, isReading}
 use Rattle.verdict.specs.Pairs.{letterShown}
 use Rattle.verdict.specs.Verdict.{firstPivot}
 
--- [Letters shown] the text of two paths side by side, step by step; a path alone, as in x and z, is given twice
+-- [Letters shown] the text of two paths side by side, position by position; a path alone, as in x and z, is given twice
 abbrev pub shown : Graph → List ℕ → List ℕ → List ℕ
 shown g [] u = []
 shown g (a ∷ r) [] = []
@@ -30,12 +30,12 @@ longest g = g .positions * g .positions + g .positions
 pub record ShowsSteady (g : Graph) (s : List ℕ) : Type 0 where
   pub letters : allLetters s ≡ true
   pub short : length s ≤ longest g
-  pub one : List ℕ
-  pub other : List ℕ
+  pub one : List Transition
+  pub other : List Transition
   pub reads-one : isReading g s one ≡ true
   pub reads-other : isReading g s other ≡ true
   pub differ : one ≡ other → ⊥
-  pub lowest : s ≡ shown g one other
+  pub lowest : s ≡ shown g (path one) (path other)
 
 -- [Runaway texts] x, y, z: a way to the first pivot, two different loops there over one text, and a way to an end
 pub record ShowsRunaway (g : Graph) (x y z : List ℕ) : Type 0 where
@@ -45,16 +45,16 @@ pub record ShowsRunaway (g : Graph) (x y z : List ℕ) : Type 0 where
   pub some-y : 1 ≤ length y
   pub short-y : length y ≤ longest g
   pub short-z : length z ≤ g .positions
-  pub way-in : List ℕ
-  pub loop : List ℕ
-  pub other : List ℕ
-  pub way-out : List ℕ
+  pub way-in : List Transition
+  pub loop : List Transition
+  pub other : List Transition
+  pub way-out : List Transition
   pub reads-loop : isReading g (x ++ (y ++ z)) (way-in ++ (loop ++ way-out)) ≡ true
   pub reads-other : isReading g (x ++ (y ++ z)) (way-in ++ (other ++ way-out)) ≡ true
   pub differ : loop ≡ other → ⊥
-  pub first : endOf 0 way-in ≡ firstPivot g
-  pub back : endOf 0 loop ≡ firstPivot g
-  pub other-back : endOf 0 other ≡ firstPivot g
-  pub lowest-x : x ≡ shown g way-in way-in
-  pub lowest-y : y ≡ shown g loop other
-  pub lowest-z : z ≡ shown g way-out way-out
+  pub first : endOf 0 (path way-in) ≡ firstPivot g
+  pub back : endOf 0 (path loop) ≡ firstPivot g
+  pub other-back : endOf 0 (path other) ≡ firstPivot g
+  pub lowest-x : x ≡ shown g (path way-in) (path way-in)
+  pub lowest-y : y ≡ shown g (path loop) (path other)
+  pub lowest-z : z ≡ shown g (path way-out) (path way-out)

@@ -4,7 +4,7 @@ use Prim.Native.Nat.{ℕ, zero, suc}
 use lib.Dec.{eqb}
 use Rattle.basics.specs.Folds.{anyIf}
 use Rattle.alphabet.specs.Alphabet.{someLetter, lowestLetter}
-use Rattle.graph.specs.Graph.{Graph, isPosition}
+use Rattle.graph.specs.Graph.{Graph, isPosition, next}
 
 pub record Pair : Type 0 where
   pub left : ℕ
@@ -29,7 +29,7 @@ somePair g f = anyIf (isPosition g) (λ a. anyIf (isPosition g) (f a) (suc (g .p
 
 -- one letter on, both paths can move from t to the positions a and b
 abbrev pub beside : Graph → Pair → ℕ → ℕ → Bool
-beside g t a b = g .next (t .left) a && (g .next (t .right) b && shares g a b)
+beside g t a b = next g (t .left) a && (next g (t .right) b && shares g a b)
 
 -- k letters on or fewer, they can be at c and d: one letter on from t, or from a pair of positions reached before
 abbrev pub reached : Graph → ℕ → Pair → ℕ → ℕ → Bool

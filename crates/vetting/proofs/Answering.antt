@@ -22,6 +22,7 @@ use Rattle.graph.specs.declared.Built.{Built}
 use Rattle.graph.specs.Graph.{Graph, isPosition}
 use Rattle.graph.specs.Built.{graphOfBuilt}
 use Rattle.graph.specs.Trim.{Route, Useful}
+use Rattle.graph.proofs.Links.{built-next, built-doubled}
 use Rattle.graph.proofs.Walks.{position-of}
 use Rattle.verdict.specs.Pairs.{bothHold, shares, letterShown}
 use Rattle.verdict.specs.Verdict.{partsTo, ambiguous, isPivot, firstPivot, verdict}
@@ -36,7 +37,7 @@ use Rattle.search.specs.declared.Goal.{Goal}
 use Rattle.vetting.specs.declared.Vetted.{Vetted}
 use Rattle.nodes.specs.Nodes.{leftOf, rightOf, goes, Step, single, beside}
 use Rattle.search.specs.Search.{isGoal}
-use Rattle.shares.specs.Tables.{Rows, Shares, held}
+use Rattle.shares.specs.Tables.{Rows, Doubles, Shares, Within, isDoubled, NoneDoubled, held}
 use Rattle.texts.specs.Texts.{letterAt, Showable, written, ShownText, Shown}
 use Rattle.vetting.specs.Answers.{Vettable, vetted, Judged}
 use Rattle.nodes.proofs.Nodes.{left-low, right-low, sides}
@@ -62,18 +63,27 @@ begins-more p y e e′ e″ n m a b h k =
 
 -- ---- the tables of a built pattern
 
-module _ {b : Built} (fit : Vettable b) where
+module _ {b : Built} {more : List ℕ} (fit : Vettable b more) where
   abbrev g : Graph
-  g = graphOfBuilt b
+  g = graphOfBuilt b more
 
   pub rows-of : Rows g (b .follow)
   rows-of = record {
     few = fit .bounded .few;
-    next = λ u i h. let n = and-parts (hasBit (getD (b .follow) u 0) i) (leb 1 i && ltb i 61) h .0 in (fit .bounded .next-to u i n, n);
+    comes = λ u i h. let n = built-next b more u i ∙ and-parts (hasBit (getD (b .follow) u 0) i) (leb 1 i && ltb i 61) h .0 in (fit .bounded .next-to u i n, n);
     goes-on = λ u i h n.
         let p = position-of g i h in
-        and-of (hasBit (getD (b .follow) u 0) i) (leb 1 i && ltb i 61) n (and-of (leb 1 i) (ltb i 61) (le-leb 1 i (p .0)) (lt-ltb i 61 (omega arith)));
+        and-of (hasBit (getD (b .follow) u 0) i) (leb 1 i && ltb i 61) (sym (built-next b more u i) ∙ n) (and-of (leb 1 i) (ltb i 61) (le-leb 1 i (p .0)) (lt-ltb i 61 (omega arith)));
   }
+
+  pub within : Within (b .follow)
+  within u i h = let p = position-of g i (fit .bounded .next-to u i (built-next b more u i ∙ h)) in omega (arith, fit .bounded .few)
+
+  pub none-doubled : b .doubled ≡ false → NoneDoubled (b .follow) more
+  none-doubled e u i = sym (built-doubled b more u i) ∙ fit .single e u i
+
+  pub doubles-of : (D : List ℕ) → ((u i : ℕ) → u ≤ b .positions → hasBit (getD D u 0) i ≡ isDoubled (b .follow) more u i) → Doubles g D
+  doubles-of D h = record { several = λ u i l k. h u i l ∙ sym (built-doubled b more u i) }
 
   own : (a : ℕ) → isPosition g a ≡ true → shares g a a ≡ true
   own a h =
@@ -97,17 +107,17 @@ module _ {b : Built} (fit : Vettable b) where
   pub honest-none : Honest (replicate 61 0)
   honest-none a c h k e = absurd (false≢true (sym (ap (λ (x : ℕ). hasBit x c) (zeros 61 a) ∙ has-none c) ∙ e))
 
-  pub showable : {S : List ℕ} → Honest S → (x y : ℕ) → Step (b .follow) S x y → Showable (b .letters) y
+  pub showable : {D S : List ℕ} → Honest S → (x y : ℕ) → Step (b .follow) D S x y → Showable (b .letters) y
   showable h x y (single {a} l k) =
-      let i = rows-of .next x a k .0 in
+      let i = rows-of .comes x a k .0 in
       let p = position-of g a i in
       let low : a < 64 = omega arith in
       let left = left-low a low in
       let right = right-low a low in
       record { left = omega arith; right = omega arith; some = ap₂ (shares g) left right ∙ own a i }
   showable h x y (beside {a} {b = c} p) =
-      let i = rows-of .next (leftOf x) a (p .left) .0 in
-      let j = rows-of .next (rightOf x) c (p .right) .0 in
+      let i = rows-of .comes (leftOf x) a (p .left) .0 in
+      let j = rows-of .comes (rightOf x) c (p .right) .0 in
       let u = position-of g a i in
       let v = position-of g c j in
       let s = h a c i j (p .share) in
@@ -124,15 +134,15 @@ module _ {b : Built} (fit : Vettable b) where
   -- the two walks of a chain of nodes to a goal, over its text
   record Walks (nodes : List ℕ) (u : ℕ) (test : ℕ → ℕ → Bool) : Type 0 where
     walks : Parting g u test
-    text : map (letterAt (b .letters)) nodes ≡ shown g (walks .one) (walks .other)
+    text : map (letterAt (b .letters)) nodes ≡ walks .text
 
-  two-walks : {S : List ℕ} → Shares g S → {m : ℕ} (test : ℕ → ℕ → Bool) → ((c d : ℕ) → bothIn m c d ≡ test c d) → {e e′ : List ℕ} {u base r : ℕ} → u ≤ g .positions
-      → (t : ShownText (b .letters) (b .follow) S e e′ (onlyAt m) u base r) → Walks (t .nodes) u test
-  two-walks sh {m} test same {u = u} l t =
-      let w = parted rows-of sh (onlyAt m) refl u l (t .nodes) (t .goes) (t .meets) in
+  two-walks : {D S : List ℕ} → Doubles g D → Shares g S → {m : ℕ} (test : ℕ → ℕ → Bool) → ((c d : ℕ) → bothIn m c d ≡ test c d) → {e e′ : List ℕ} {u base r : ℕ} → u ≤ g .positions
+      → (t : ShownText (b .letters) (b .follow) D S e e′ (onlyAt m) u base r) → Walks (t .nodes) u test
+  two-walks db sh {m} test same {u = u} l t =
+      let w = parted rows-of db sh (onlyAt m) refl u l (t .nodes) (t .goes) (t .meets) in
       record {
-        walks = short-parting g (fit .trim) u test (w .to) (sym (same (w .to .left) (w .to .right)) ∙ w .passes) (short-nodes rows-of sh (onlyAt m) u (t .nodes) (t .apart) w);
-        text = text-same (t .nodes) ∙ ap (map (letterOf g)) (sym (w .are)) ∙ shown-codes rows-of sh (start u) (w .nodes) (w .goes);
+        walks = short-parting g (fit .trim) u test (w .to) (sym (same (w .to .left) (w .to .right)) ∙ w .passes) (short-nodes rows-of db sh (onlyAt m) u (t .nodes) (t .apart) w);
+        text = text-same (t .nodes) ∙ ap (map (letterOf g)) (sym (w .are)) ∙ shown-codes rows-of db sh (start u) (w .nodes) (w .goes);
       }
 
   -- ---- one path
@@ -165,12 +175,12 @@ module _ {b : Built} (fit : Vettable b) where
     short : length nodes ≤ g .positions
     text : map (letterAt (b .letters)) nodes ≡ shown g nodes nodes
 
-  abbrev ShownRoute : List ℕ → List ℕ → ℕ → ℕ → ℕ → ℕ → Type 0
-  ShownRoute e e′ m u base r = ShownText (b .letters) (b .follow) (replicate 61 0) e e′ (stateIn m) u base r
+  abbrev ShownRoute : List ℕ → List ℕ → List ℕ → ℕ → ℕ → ℕ → ℕ → Type 0
+  ShownRoute D e e′ m u base r = ShownText (b .letters) (b .follow) D (replicate 61 0) e e′ (stateIn m) u base r
 
-  routed : {m : ℕ} {e e′ : List ℕ} {u base r : ℕ} → u ≤ g .positions → (t : ShownRoute e e′ m u base r) → Routed (t .nodes) u m
-  routed {m} {u = u} l t =
-      let h = chain-route rows-of u (t .nodes) (t .goes) in
+  routed : {D : List ℕ} {m : ℕ} {e e′ : List ℕ} {u base r : ℕ} → u ≤ g .positions → (t : ShownRoute D e e′ m u base r) → Routed (t .nodes) u m
+  routed {D} {m} {u = u} l t =
+      let h = chain-route rows-of D u (t .nodes) (t .goes) in
       record {
         route = h;
         meets = sym (goal-at m u (t .nodes) l h) ∙ t .meets;
@@ -179,16 +189,16 @@ module _ {b : Built} (fit : Vettable b) where
       }
 
   -- where there is a route, a search finds one
-  route-shown : {m : ℕ} {e e′ : List ℕ} {u base r : ℕ} (c : List ℕ) → u ≤ g .positions → Route g u c → hasBit m (endOf u c) ≡ true
-      → Shown (b .letters) (b .follow) (replicate 61 0) e e′ (stateIn m) u base r → ShownRoute e e′ m u base r
-  route-shown {m} {u = u} {r = r} c l h k s =
+  route-shown : {D : List ℕ} {m : ℕ} {e e′ : List ℕ} {u base r : ℕ} (c : List ℕ) → u ≤ g .positions → Route g u c → hasBit m (endOf u c) ≡ true
+      → Shown (b .letters) (b .follow) D (replicate 61 0) e e′ (stateIn m) u base r → ShownRoute D e e′ m u base r
+  route-shown {D} {m} {u = u} {r = r} c l h k s =
       ⊎-elim
-      (λ n. absurd (true≢false (sym (goal-at m u c l h ∙ k) ∙ s .none n .1 c (route-chain rows-of (replicate 61 0) u c (omega arith) h))))
+      (λ n. absurd (true≢false (sym (goal-at m u c l h ∙ k) ∙ s .none n .1 c (route-chain rows-of D (replicate 61 0) u c (omega arith) h))))
       (s .some) (le-or-lt 4096 r)
 
   -- ---- no pivot
 
-  module _ {S : List ℕ} (sh : Shares g S) (no : firstPivot g ≡ 0) {e e′ : List ℕ} {r : ℕ} (s : Shown (b .letters) (b .follow) S e e′ (onlyAt (b .lasts)) 0 0 r) where
+  module _ {D S : List ℕ} (db : Doubles g D) (sh : Shares g S) (no : firstPivot g ≡ 0) {e e′ : List ℕ} {r : ℕ} (s : Shown (b .letters) (b .follow) D S e e′ (onlyAt (b .lasts)) 0 0 r) where
     verdict-low : verdict g ≡ (if ambiguous g then 1 else 0)
     verdict-low = if-no 2 (if ambiguous g then 1 else 0) (not (eqb (firstPivot g) 0)) (ap not (eq-eqb (firstPivot g) 0 no))
 
@@ -196,18 +206,18 @@ module _ {b : Built} (fit : Vettable b) where
     single-answer l =
         let n = s .none l in
         record {
-          verdict-is = sym (verdict-low ∙ if-no 1 0 (ambiguous g) (none-parts rows-of sh (onlyAt (b .lasts)) refl 0 zero-le (n .1)));
+          verdict-is = sym (verdict-low ∙ if-no 1 0 (ambiguous g) (none-parts rows-of db sh (onlyAt (b .lasts)) refl 0 zero-le (n .1)));
           shows = record { first = refl; second = refl; third = refl; kept = n .0 };
         }
 
     pub steady-answer : r < 4096 → Vets g e e′ 1 r 0 0
     steady-answer l =
         let t = s .some l in
-        let w = two-walks sh (bothLast g) (λ c d. refl) zero-le t in
+        let w = two-walks db sh (bothLast g) (λ c d. refl) zero-le t in
         let text = map (letterAt (b .letters)) (t .nodes) in
         let size : length text ≡ r = length-map (t .nodes) (letterAt (b .letters)) ∙ t .size in
         record {
-          verdict-is = sym (verdict-low ∙ if-yes 1 0 (ambiguous g) (some-parts rows-of sh (onlyAt (b .lasts)) refl 0 zero-le (t .nodes) (t .goes) (t .meets)));
+          verdict-is = sym (verdict-low ∙ if-yes 1 0 (ambiguous g) (some-parts rows-of db sh (onlyAt (b .lasts)) refl 0 zero-le (t .nodes) (t .goes) (t .meets)));
           shows = record {
             text = text;
             shows = subst (ShowsSteady g) (sym (w .text)) (parting-steady g (w .walks));
@@ -246,35 +256,37 @@ module _ {b : Built} (fit : Vettable b) where
     useful : Useful g q
     useful = fit .trim .useful q (first .0)
 
-    pub way-in-shown : {e e′ : List ℕ} {r : ℕ} → Shown (b .letters) (b .follow) (replicate 61 0) e e′ (stateIn m) 0 0 r → ShownRoute e e′ m 0 0 r
+    pub way-in-shown : {D e e′ : List ℕ} {r : ℕ} → Shown (b .letters) (b .follow) D (replicate 61 0) e e′ (stateIn m) 0 0 r → ShownRoute D e e′ m 0 0 r
     way-in-shown = route-shown (useful .way-in) zero-le (useful .goes-in) (at .only (endOf 0 (useful .way-in)) ∙ eq-eqb q (endOf 0 (useful .way-in)) (sym (useful .comes)))
 
-    pub way-in-short : {e e′ : List ℕ} {r : ℕ} → ShownRoute e e′ m 0 0 r → r ≤ 60
+    pub way-in-short : {D e e′ : List ℕ} {r : ℕ} → ShownRoute D e e′ m 0 0 r → r ≤ 60
     way-in-short t = omega (arith, routed zero-le t .short, t .size, fit .bounded .few)
 
-    pub way-out-shown : {e e′ : List ℕ} {base r : ℕ} → Shown (b .letters) (b .follow) (replicate 61 0) e e′ (stateIn (b .lasts)) q base r → ShownRoute e e′ (b .lasts) q base r
+    pub way-out-shown : {D e e′ : List ℕ} {base r : ℕ} → Shown (b .letters) (b .follow) D (replicate 61 0) e e′ (stateIn (b .lasts)) q base r → ShownRoute D e e′ (b .lasts) q base r
     way-out-shown = route-shown (useful .way-out) low (useful .goes-out) (useful .ends)
 
     back-same : (c d : ℕ) → bothIn m c d ≡ backTo q c d
     back-same c d = ap₂ _&&_ (at .only c ∙ equal-swap q c) (at .only d ∙ equal-swap q d)
 
-    pub loops-shown : {S : List ℕ} → Shares g S → {e e′ : List ℕ} {base r : ℕ} → Shown (b .letters) (b .follow) S e e′ (onlyAt m) q base r → ShownText (b .letters) (b .follow) S e e′ (onlyAt m) q base r
-    loops-shown sh {r = r} s =
+    pub loops-shown : {D S : List ℕ} → Doubles g D → Shares g S → {e e′ : List ℕ} {base r : ℕ} → Shown (b .letters) (b .follow) D S e e′ (onlyAt m) q base r
+        → ShownText (b .letters) (b .follow) D S e e′ (onlyAt m) q base r
+    loops-shown db sh {r = r} s =
         let same : bothIn m ≡ backTo q = λ i c d. back-same c d i in
-        ⊎-elim (λ n. absurd (true≢false (sym (first .1) ∙ ap (partsTo g q) (sym same) ∙ none-parts rows-of sh (onlyAt m) refl q low (s .none n .1)))) (s .some) (le-or-lt 4096 r)
+        ⊎-elim (λ n. absurd (true≢false (sym (first .1) ∙ ap (partsTo g q) (sym same) ∙ none-parts rows-of db sh (onlyAt m) refl q low (s .none n .1)))) (s .some) (le-or-lt 4096 r)
 
-    at-pivot : (w : Useful g q) (l : Loops g q) → ShowsRunaway g (shown g (w .way-in) (w .way-in)) (shown g (l .one) (l .other)) (shown g (w .way-out) (w .way-out))
+    at-pivot : (w : Useful g q) (l : Loops g q) → ShowsRunaway g (shown g (w .way-in) (w .way-in)) (l .text) (shown g (w .way-out) (w .way-out))
     at-pivot =
-        subst (λ (k : ℕ). isPosition g k ≡ true → (w : Useful g k) (l : Loops g k) → ShowsRunaway g (shown g (w .way-in) (w .way-in)) (shown g (l .one) (l .other)) (shown g (w .way-out) (w .way-out))) (at .is)
+        subst (λ (k : ℕ). isPosition g k ≡ true → (w : Useful g k) (l : Loops g k) → ShowsRunaway g (shown g (w .way-in) (w .way-in)) (l .text) (shown g (w .way-out) (w .way-out))) (at .is)
         (λ i w l. loops-runaway g (fit .trim) i w l) (first .0)
 
     -- the three texts
-    pub runaway-answer : {S : List ℕ} → Shares g S → {e e1 e2 e3 : List ℕ} {x y z : ℕ} → ShownRoute e e1 m 0 0 x → ShownText (b .letters) (b .follow) S e1 e2 (onlyAt m) q x y → ShownRoute e2 e3 (b .lasts) q (x + y) z
+    pub runaway-answer : {D S : List ℕ} → Doubles g D → Shares g S → {e e1 e2 e3 : List ℕ} {x y z : ℕ} → ShownRoute D e e1 m 0 0 x
+        → ShownText (b .letters) (b .follow) D S e1 e2 (onlyAt m) q x y → ShownRoute D e2 e3 (b .lasts) q (x + y) z
         → Vets g e e3 2 x y z
-    runaway-answer sh {e} {e1} {e2} {e3} {x} {y} {z} tx ty tz =
+    runaway-answer db sh {e} {e1} {e2} {e3} {x} {y} {z} tx ty tz =
         let i = routed zero-le tx in
         let o = routed low tz in
-        let w = two-walks sh (backTo q) back-same low ty in
+        let w = two-walks db sh (backTo q) back-same low ty in
         let text : List ℕ → List ℕ = map (letterAt (b .letters)) in
         let sx : length (text (tx .nodes)) ≡ x = length-map (tx .nodes) (letterAt (b .letters)) ∙ tx .size in
         let sy : length (text (ty .nodes)) ≡ y = length-map (ty .nodes) (letterAt (b .letters)) ∙ ty .size in

@@ -1,18 +1,20 @@
 -- What vetting a built pattern asks of it, and gives.
 use mathlib.Core.Path.{_≡_}
+use mathlib.Core.Bool.{false}
 use mathlib.Core.List.{List}
 use Prim.Native.Nat.{ℕ}
 use Rattle.graph.specs.declared.Built.{Built}
-use Rattle.graph.specs.Graph.{Graph, Bounded}
+use Rattle.graph.specs.Graph.{Graph, Bounded, Single}
 use Rattle.graph.specs.Built.{graphOfBuilt}
 use Rattle.graph.specs.Trim.{Trim}
 use Rattle.verdict.specs.Answers.{Vets}
 use Rattle.vetting.specs.declared.Vetted.{Vetted}
 
--- what vetting asks of a built pattern
-pub record Vettable (b : Built) : Type 0 where
-  pub bounded : Bounded (graphOfBuilt b)
-  pub trim : Trim (graphOfBuilt b)
+-- what vetting asks of a built pattern and the table of its links beyond the first
+pub record Vettable (b : Built) (more : List ℕ) : Type 0 where
+  pub bounded : Bounded (graphOfBuilt b more)
+  pub trim : Trim (graphOfBuilt b more)
+  pub single : b .doubled ≡ false → Single (graphOfBuilt b more)
 
 -- a result with no refusal: the number of positions, a verdict and three lengths
 abbrev pub vetted : ℕ → ℕ → ℕ → ℕ → ℕ → Vetted

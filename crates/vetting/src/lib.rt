@@ -7,7 +7,7 @@ ghost use Prim.Native.Nat.{_≤_, _<_};
 ghost use lib.ListN.{length};
 ghost use Rattle.graph.specs.Built.{graphOfBuilt};
 ghost use Rattle.verdict.specs.Verdict.{firstPivot};
-ghost use Rattle.shares.specs.Tables.{Shares};
+ghost use Rattle.shares.specs.Tables.{Doubles, Shares};
 ghost use Rattle.vetting.specs.Answers.{Vettable, vetted, Judged};
 
 // What vetting gives: the refusal, or 0 and the verdict (0 single, 1 steady, 2 runaway), the number of positions, and the
@@ -22,31 +22,44 @@ pub struct Vetted {
     pub third: u32,
 }
 
-// The verdict of a pattern, with its evidence. 4,096 bytes and 4,096 numbers are enough, whatever they hold.
-pub fn vet(b: Built, evidence: &mut [u8], scratch: &mut [u16]) -> Vetted
-    requires { ⌜ Vettable b × (4096 ≤ length (now evidence)) × (4096 ≤ length (now scratch)) ⌝ }
-    ensures { λ r. ⌜ Judged (graphOfBuilt b) (now (evidence .entry)) (now (evidence .exit)) r ⌝ }
+// The verdict of a pattern, with its evidence; `more` is the table of its links beyond the first. 4,096 bytes and 4,096 numbers are
+// enough, whatever they hold.
+pub fn vet(b: Built, more: &[u8], evidence: &mut [u8], scratch: &mut [u16]) -> Vetted
+    requires { ⌜ Vettable b (now more) × (length (now more) ≡ 3721) × (4096 ≤ length (now evidence)) × (4096 ≤ length (now scratch)) ⌝ }
+    ensures { λ r. ⌜ Judged (graphOfBuilt b (now (more .entry))) (now (evidence .entry)) (now (evidence .exit)) r ⌝ }
 {
     let follow = b.follow;
     let sets = b.letters;
+    let doubles = double_rows(b, more);
     let mut shares = [0u64; 61];
     shares::share_rows(sets, &mut shares, b.positions);
-    let q = search::first_pivot(&follow, &shares, &mut *scratch, b.positions);
+    let q = search::first_pivot(&follow, &doubles, &shares, &mut *scratch, b.positions);
     if q == 0 {
-        return single_or_steady(b, &shares, &mut *evidence, &mut *scratch);
+        return single_or_steady(b, more, &doubles, &shares, &mut *evidence, &mut *scratch);
     }
-    runaway(b, &shares, &mut *evidence, &mut *scratch, q)
+    runaway(b, more, &doubles, &shares, &mut *evidence, &mut *scratch, q)
 }
 
-// Of a pattern without a pivot: steady where two readings part and both come to an end, else single.
-fn single_or_steady(
+// Where two links or more lead, in rows. Most patterns have no such place, and then nothing is looked up.
+fn double_rows(b: Built, more: &[u8]) -> [u64; 61]
+    requires { ⌜ Vettable b (now more) × (length (now more) ≡ 3721) ⌝ }
+    ensures { λ r. ⌜ Doubles (graphOfBuilt b (now (more .entry))) r ⌝ }
+{
+    let follow = b.follow;
+    shares::double_rows(&follow, more, b.doubled, b.positions)
+}
+
+// Of a pattern without a pivot, whose links `more` counts: steady where two readings part and both come to an end, else single.
+fn single_or_steady<'a>(
     b: Built,
-    shares: &[u64; 61],
+    more: &[u8],
+    doubles: &'a [u64; 61],
+    shares: &'a [u64; 61],
     evidence: &mut [u8],
     scratch: &mut [u16],
 ) -> Vetted
-    requires { ⌜ Vettable b × Shares (graphOfBuilt b) (now shares) × (firstPivot (graphOfBuilt b) ≡ 0) × (4096 ≤ length (now evidence)) × (4096 ≤ length (now scratch)) ⌝ }
-    ensures { λ r. ⌜ Judged (graphOfBuilt b) (now (evidence .entry)) (now (evidence .exit)) r ⌝ }
+    requires { ⌜ Vettable b (now more) × Doubles (graphOfBuilt b (now more)) (now doubles) × Shares (graphOfBuilt b (now more)) (now shares) × (firstPivot (graphOfBuilt b (now more)) ≡ 0) × (4096 ≤ length (now evidence)) × (4096 ≤ length (now scratch)) ⌝ }
+    ensures { λ r. ⌜ Judged (graphOfBuilt b (now (more .entry))) (now (evidence .entry)) (now (evidence .exit)) r ⌝ }
 {
     let follow = b.follow;
     let sets = b.letters;
@@ -56,6 +69,7 @@ fn single_or_steady(
     };
     let n = texts::show(
         &follow,
+        doubles,
         shares,
         sets,
         &mut *scratch,
@@ -70,16 +84,18 @@ fn single_or_steady(
     judgement(b.positions, 1, n, 0, 0)
 }
 
-// Of a pattern whose first pivot is q.
-fn runaway(
+// Of a pattern whose first pivot is q, and whose links `more` counts.
+fn runaway<'a>(
     b: Built,
-    shares: &[u64; 61],
+    more: &[u8],
+    doubles: &'a [u64; 61],
+    shares: &'a [u64; 61],
     evidence: &mut [u8],
     scratch: &mut [u16],
     q: usize,
 ) -> Vetted
-    requires { ⌜ Vettable b × Shares (graphOfBuilt b) (now shares) × (firstPivot (graphOfBuilt b) ≡ q) × (0 < q) × (4096 ≤ length (now evidence)) × (4096 ≤ length (now scratch)) ⌝ }
-    ensures { λ r. ⌜ Judged (graphOfBuilt b) (now (evidence .entry)) (now (evidence .exit)) r ⌝ }
+    requires { ⌜ Vettable b (now more) × Doubles (graphOfBuilt b (now more)) (now doubles) × Shares (graphOfBuilt b (now more)) (now shares) × (firstPivot (graphOfBuilt b (now more)) ≡ q) × (0 < q) × (4096 ≤ length (now evidence)) × (4096 ≤ length (now scratch)) ⌝ }
+    ensures { λ r. ⌜ Judged (graphOfBuilt b (now (more .entry))) (now (evidence .entry)) (now (evidence .exit)) r ⌝ }
 {
     let follow = b.follow;
     let sets = b.letters;
@@ -99,6 +115,7 @@ fn runaway(
     };
     let x = texts::show(
         &follow,
+        doubles,
         &none,
         sets,
         &mut *scratch,
@@ -109,6 +126,7 @@ fn runaway(
     );
     let y = texts::show(
         &follow,
+        doubles,
         shares,
         sets,
         &mut *scratch,
@@ -119,6 +137,7 @@ fn runaway(
     );
     let z = texts::show(
         &follow,
+        doubles,
         &none,
         sets,
         &mut *scratch,

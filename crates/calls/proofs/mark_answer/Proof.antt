@@ -8,6 +8,9 @@ use Rattle.calls.proofs.Marking.{by-pattern, too-long, no-text, accepte
 use Rattle.calls.proofs.mark_answer.Statement.{statement}
 use Rattle.calls.proofs.mark_answer.Tie as tie
 
+slice-aggregate-read : tie.Need-slice-aggregate-read
+slice-aggregate-read c = search needs
+
 read-requires : tie.Need-read-requires
 read-requires c κs = search needs
 
@@ -16,8 +19,8 @@ no-mark-requires c κs = search needs
 
 returns : tie.Need-returns
 returns c =
-    let a = c .before .before .before .before .before .before .args in
-    let p = c .before .before .before .read in
+    let p = c .before .before .before .before .read in
+    let a = c .before .before .before .before .before .before .before .before .args in
     let f = p .ensures .refusal in
     says-refusal (a .pattern .now) (a .answer .now) (p .result .refusal) (c .no-mark .result) (c .before .if1 .taken)
     (by-pattern (a .pattern .now) (a .answer .now) (λ e. c .before .if1 .taken (f ∙ e)) ∙ sym f) (c .no-mark .ensures)
@@ -27,8 +30,9 @@ no-mark-requires-2 c κs = search needs
 
 returns-2 : tie.Need-returns-2
 returns-2 c =
-    let a = c .before .before .before .before .before .before .before .args in
-    let f = sym (c .before .before .before .before .read .ensures .refusal) ∙ c .before .before .if1 .left in
+    let p = c .before .before .before .before .before .read in
+    let a = c .before .before .before .before .before .before .before .before .before .args in
+    let f = sym (p .ensures .refusal) ∙ c .before .before .if1 .left in
     says-refusal (a .pattern .now) (a .answer .now) 9 (c .no-mark2 .result) (λ e. omega arith) (too-long (a .pattern .now) (a .answer .now) f (c .before .if2 .taken)) (c .no-mark2 .ensures)
 
 all-letters-requires : tie.Need-all-letters-requires
@@ -39,28 +43,33 @@ no-mark-requires-3 c κs = search needs
 
 returns-3 : tie.Need-returns-3
 returns-3 c =
-    let a = c .before .before .before .before .before .before .before .before .before .args in
-    let f = sym (c .before .before .before .before .before .before .read .ensures .refusal) ∙ c .before .before .before .before .if1 .left in
+    let p = c .before .before .before .before .before .before .before .read in
+    let a = c .before .before .before .before .before .before .before .before .before .before .before .args in
+    let f = sym (p .ensures .refusal) ∙ c .before .before .before .before .if1 .left in
     let l = c .before .before .all-letters in
     says-refusal (a .pattern .now) (a .answer .now) 10 (c .no-mark3 .result) (λ e. omega arith)
     (no-text (a .pattern .now) (a .answer .now) f (c .before .before .before .if2 .left) (sym (l .ensures) ∙ not-true (l .result) (c .before .if3 .taken))) (c .no-mark3 .ensures)
 
+slice-aggregate-mark : tie.Need-slice-aggregate-mark
+slice-aggregate-mark c = search needs
+
 mark-requires : tie.Need-mark-requires
-mark-requires c κs = (c .before .before .before .before .before .before .read .ensures .bounded, c .before .before .before .if2 .left)
+mark-requires c κs = search needs
 
 returns-4 : tie.Need-returns-4
 returns-4 c =
-    let a = c .before .before .before .before .before .before .before .before .before .before .args in
-    let p = c .before .before .before .before .before .before .before .read in
-    let f = sym (p .ensures .refusal) ∙ c .before .before .before .before .before .if1 .left in
-    let l = c .before .before .before .all-letters in
+    let p = c .before .before .before .before .before .before .before .before .before .read in
+    let a = c .before .before .before .before .before .before .before .before .before .before .before .before .before .args in
+    let f = sym (p .ensures .refusal) ∙ c .before .before .before .before .before .before .if1 .left in
+    let l = c .before .before .before .before .all-letters in
     says-mark (a .pattern .now) (a .answer .now) _ (c .mark .result) (p .ensures .graph) f
-    (accepted (a .pattern .now) (a .answer .now) f (c .before .before .before .before .if2 .left) (sym (l .ensures) ∙ not-false (l .result) (c .before .before .if3 .left))) (c .mark .ensures)
+    (accepted (a .pattern .now) (a .answer .now) f (c .before .before .before .before .before .if2 .left) (sym (l .ensures) ∙ not-false (l .result) (c .before .before .before .if3 .left))) (c .mark .ensures)
 
 pub mark-answer-spec : {M : Type 1} → statement M
 mark-answer-spec =
     tie.close
     (tie.spec
+    slice-aggregate-read
     read-requires
     no-mark-requires
     returns
@@ -69,5 +78,6 @@ mark-answer-spec =
     all-letters-requires
     no-mark-requires-3
     returns-3
+    slice-aggregate-mark
     mark-requires
     returns-4)

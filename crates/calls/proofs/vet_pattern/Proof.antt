@@ -27,6 +27,9 @@ returns-2 c =
     says-refusal 2 (a .pattern .now) (a .evidence .now) (a .scratch .now) (c .no-verdict2 .result) (λ e. omega arith)
     (little-scratch (a .pattern .now) (length (a .evidence .now)) (length (a .scratch .now)) (c .before .before .if1 .left) (c .before .if2 .taken)) (c .no-verdict2 .ensures)
 
+slice-aggregate-read : tie.Need-slice-aggregate-read
+slice-aggregate-read c = search needs
+
 read-requires : tie.Need-read-requires
 read-requires c κs = search needs
 
@@ -35,17 +38,22 @@ no-verdict-requires-3 c κs = search needs
 
 returns-3 : tie.Need-returns-3
 returns-3 c =
-    let a = c .before .before .before .before .before .before .before .before .before .args in
-    let p = c .before .before .before .read in
+    let q = c .before .before .before .before in
+    let a = q .before .before .before .before .before .before .before .args in
+    let p = q .read in
     says-refusal (p .result .refusal) (a .pattern .now) (a .evidence .now) (a .scratch .now) (c .no-verdict3 .result) (c .before .if3 .taken)
-    (by-pattern (a .pattern .now) (length (a .evidence .now)) (length (a .scratch .now)) (c .before .before .before .before .before .if1 .left) (c .before .before .before .before .if2 .left) ∙ sym (p .ensures .refusal)) (c .no-verdict3 .ensures)
+    (by-pattern (a .pattern .now) (length (a .evidence .now)) (length (a .scratch .now)) (q .before .before .before .if1 .left) (q .before .before .if2 .left) ∙ sym (p .ensures .refusal)) (c .no-verdict3 .ensures)
+
+slice-aggregate-vet : tie.Need-slice-aggregate-vet
+slice-aggregate-vet c = search needs
 
 vet-requires : tie.Need-vet-requires
 vet-requires c κs =
-    let a = c .before .before .before .before .before .before .before .before .before .before .before .args in
-    let p = c .before .before .before .before .before .read in
-    let f = sym (p .ensures .refusal) ∙ c .before .before .before .if3 .left in
-    (record { bounded = p .ensures .bounded; trim = trim-built (a .pattern .now) _ (p .ensures .graph) f }, omega arith, omega arith)
+    let q = c .before .before .before .before .before .before .before in
+    let a = q .before .before .before .before .before .before .before .args in
+    let p = q .read in
+    let f = sym (p .ensures .refusal) ∙ c .before .before .before .before .if3 .left in
+    (record { bounded = p .ensures .bounded; trim = trim-built (a .pattern .now) _ (p .ensures .graph) f; single = p .ensures .single }, search needs, omega arith, omega arith)
 
 same-length : tie.Need-same-length
 same-length c = search needs
@@ -55,14 +63,16 @@ same-length-2 c = search needs
 
 returns-4 : tie.Need-returns-4
 returns-4 c =
-    let a = c .before .before .before .before .before .before .before .before .before .before .before .before .before .before .before .before .args in
-    let p = c .before .before .before .before .before .before .before .before .before .before .read in
-    let v = c .before .before .before .before .vet in
-    let f = sym (p .ensures .refusal) ∙ c .before .before .before .before .before .before .before .before .if3 .left in
-    let l : length (v .last .1 .1 .0) ≡ length (a .scratch .now) = search needs in
-    says-verdict (a .pattern .now) (a .evidence .now) (v .last .1 .0) (a .scratch .now) (v .last .1 .1 .0) (v .result)
-    (by-pattern (a .pattern .now) (length (a .evidence .now)) (length (a .scratch .now)) (c .before .before .before .before .before .before .before .before .before .before .before .before .if1 .left) (c .before .before .before .before .before .before .before .before .before .before .before .if2 .left) ∙ f)
-    (answers (a .pattern .now) (a .evidence .now) (v .last .1 .0) (a .scratch .now) (v .last .1 .1 .0) (graphOfBuilt (p .result .built)) (v .result) (p .ensures .graph) f (v .ensures) l)
+    let w = c .before .before .before .before in
+    let v = w .vet in
+    let q = w .before .before .before .before .before .before .before .before in
+    let a = q .before .before .before .before .before .before .before .args in
+    let p = q .read in
+    let f = sym (p .ensures .refusal) ∙ w .before .before .before .before .before .if3 .left in
+    let l : length (v .last .1 .1 .1 .0) ≡ length (a .scratch .now) = search needs in
+    says-verdict (a .pattern .now) (a .evidence .now) (v .last .1 .1 .0) (a .scratch .now) (v .last .1 .1 .1 .0) (v .result)
+    (by-pattern (a .pattern .now) (length (a .evidence .now)) (length (a .scratch .now)) (q .before .before .before .if1 .left) (q .before .before .if2 .left) ∙ f)
+    (answers (a .pattern .now) (a .evidence .now) (v .last .1 .1 .0) (a .scratch .now) (v .last .1 .1 .1 .0) (graphOfBuilt (p .result .built) (p .last .1 .0)) (v .result) (p .ensures .graph) f (v .ensures) l)
 
 pub vet-pattern-spec : {M : Type 1} → statement M
 vet-pattern-spec =
@@ -72,9 +82,11 @@ vet-pattern-spec =
     returns
     no-verdict-requires-2
     returns-2
+    slice-aggregate-read
     read-requires
     no-verdict-requires-3
     returns-3
+    slice-aggregate-vet
     vet-requires
     same-length
     same-length-2

@@ -1,18 +1,19 @@
--- Nothing is stored without a member; else the two stores are of what `gather` gives. Assumes nothing.
+-- Nothing is stored without a member; else the two stores are of what `gather_for` gives. Assumes nothing.
 use mathlib.Core.Path.{ap, _∙_}
 use Prim.Native.Nat.{ℕ, _+_, _%_, _^_}
 use borrow.Author.Needs.{needs}
+use Rattle.frontier.specs.Rows.{cell, countOf, byLinks}
 use Rattle.frontier.proofs.Fills.{stored-none, stored-some}
 use Rattle.frontier.proofs.fill.Statement.{statement}
 use Rattle.frontier.proofs.fill.Tie as tie
 
 returns : tie.Need-returns
 returns c =
-    let a = c .before .before .before .args in
+    let a = c .before .before .before .before .args in
     (stored-none (a .members) (a .at) _ (a .counts .now) (c .if1 .taken), stored-none (a .members) (a .at) _ (a .best .now) (c .if1 .taken))
 
-gather-requires : tie.Need-gather-requires
-gather-requires c κs = search needs
+gather-for-requires : tie.Need-gather-for-requires
+gather-for-requires c κs = search needs
 
 mul-counts : tie.Need-mul-counts
 mul-counts c = search needs
@@ -37,10 +38,10 @@ same-length-2 c = search needs
 
 returns-2 : tie.Need-returns-2
 returns-2 c =
-    let a = c .before .before .before .before .before .before .before .args in
+    let a = c .before .before .before .before .before .before .before .before .args in
     let some = c .before .before .before .before .if1 .left in
-    let g = c .before .gather .ensures in (
-      stored-some (a .members) (a .at) _ _ (a .counts .now) some (g .0),
+    let g = c .before .gather-for .ensures in (
+      stored-some (a .members) (a .at) _ (countOf (a .members) (byLinks (a .linked) (a .more .now) (a .i) (cell (a .counts .now) (a .from)))) (a .counts .now) some (g .0),
       stored-some (a .members) (a .at) _ _ (a .best .now) some (c .wrapping-add-u32 .ensures ∙ ap (λ (x : ℕ). (x + a .credit) % 2 ^ 32) (g .1)),
     )
 
@@ -49,7 +50,7 @@ fill-spec =
     tie.close
     (tie.spec
     returns
-    gather-requires
+    gather-for-requires
     mul-counts
     slice-write-counts
     wrapping-add-u32-requires

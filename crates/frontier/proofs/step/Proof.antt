@@ -9,15 +9,15 @@ use Rattle.frontier.proofs.step.Statement.{statement}
 use Rattle.frontier.proofs.step.Tie as tie
 
 abbrev Inv-loop : tie.InvT-loop
-Inv-loop counts₀ best₀ from to active holds before credits left₀ out₀ counts best left out = Filling before credits from to active holds counts₀ best₀ counts best left out
+Inv-loop counts₀ best₀ from to active holds before credits linked more left₀ out₀ counts best left out = Filling linked more before credits from to active holds counts₀ best₀ counts best left out
 
 abbrev μ-loop : tie.MeasureT-loop
-μ-loop counts₀ best₀ from to active holds before credits left₀ out₀ counts best left out = left
+μ-loop counts₀ best₀ from to active holds before credits linked more left₀ out₀ counts best left out = left
 
 loop-holds : tie.Need-loop-holds Inv-loop μ-loop
 loop-holds c =
-    let a = c .before .before .args in
-    filling-start (a .before .now) (a .credits .now) (a .from) (a .to) (a .active) (a .holds) (a .counts .now) (a .best .now) (c .before .before .pre .1)
+    let a = c .before .before .before .args in
+    filling-start (a .linked) (a .more .now) (a .before .now) (a .credits .now) (a .from) (a .to) (a .active) (a .holds) (a .counts .now) (a .best .now) (c .before .before .before .pre .1)
 
 lowest-requires : tie.Need-lowest-requires Inv-loop μ-loop
 lowest-requires c κs = omega (arith, c .loop-test .taken)
@@ -38,14 +38,14 @@ element-copy-out-fill c =
 
 fill-requires : tie.Need-fill-requires Inv-loop μ-loop
 fill-requires c κs =
-    let s = c .before .before .before .before .before .before .before .before .before in
+    let s = c .before .before .before .before .before .before .before .before .before .before in
     let at = c .before .before .before .before .before .before .loop in
     let t = c .before .before .before .before .lowest .result in
     let low = member-below 61 (at .left) t (at .inv .small) (c .before .before .before .before .lowest .ensures .1 .here) in
     let sizeC = at .inv .counted .size in
     let sizeB = at .inv .marked .size in
     let pre = s .pre in
-    (lt-of-le-of-lt (and-le-r (getD (s .args .before .now) t 0) (s .args .active)) (pre .0), omega arith, omega arith, omega arith, omega arith)
+    (lt-of-le-of-lt (and-le-r (getD (s .args .before .now) t 0) (s .args .active)) (pre .0), omega arith, omega arith, omega arith, omega arith, pre .7, low)
 
 with-if-requires : tie.Need-with-if-requires Inv-loop μ-loop
 with-if-requires c κs = omega arith
@@ -58,14 +58,14 @@ loop-less c = omega arith
 
 loop-again : tie.Need-loop-again Inv-loop μ-loop
 loop-again c =
-    let s = c .before .before .before .before .before .before .before .before .before .before .before .before .before .before .before .before in
+    let s = c .before .before .before .before .before .before .before .before .before .before .before .before .before .before .before .before .before in
     let a = s .args in
     let at = c .before .before .before .before .before .before .before .before .before .before .before .before .before .loop in
     let t = c .before .before .before .before .before .before .before .before .before .before .before .lowest .result in
     let l = c .before .before .before .before .before .before .before .before .before .before .before .lowest .ensures .1 in
     let made = c .before .before .before .before .before .before .fill in
     let o = c .before .with-if in
-    filling-on (a .before .now) (a .credits .now) (a .from) (a .to) (a .active) (a .holds) (a .counts .now) (a .best .now) (s .pre .1) (at .counts) (at .best) (at .left) (at .out) (at .inv)
+    filling-on (a .linked) (a .more .now) (a .before .now) (a .credits .now) (a .from) (a .to) (a .active) (a .holds) (a .counts .now) (a .best .now) (s .pre .1) (at .counts) (at .best) (at .left) (at .out) (at .inv)
     (s .pre .6) (s .pre .4) (s .pre .5) t (c .rest .result) (o .result) l (c .rest .ensures .1 t l) (c .rest .ensures .0) (o .ok) (o .ensures) (made .last .0) (made .last .1 .0)
     (made .ensures .0) (made .ensures .1)
 
@@ -78,8 +78,8 @@ same-length-2 c = c .before .loop .inv .marked .size
 returns : tie.Need-returns Inv-loop μ-loop
 returns c =
     let at = c .before .loop in
-    let a = c .before .before .before .before .args in
-    filling-end (a .before .now) (a .credits .now) (a .from) (a .to) (a .active) (a .holds) (a .counts .now) (a .best .now) (c .before .before .before .before .pre .1) (at .counts) (at .best) (at .left) (at .out) (at .inv)
+    let a = c .before .before .before .before .before .args in
+    filling-end (a .linked) (a .more .now) (a .before .now) (a .credits .now) (a .from) (a .to) (a .active) (a .holds) (a .counts .now) (a .best .now) (c .before .before .before .before .before .pre .1) (at .counts) (at .best) (at .left) (at .out) (at .inv)
     (c .loop-test .left)
 
 pub step-spec : {M : Type 1} → statement M

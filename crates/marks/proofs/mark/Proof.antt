@@ -15,12 +15,12 @@ use Rattle.marks.proofs.mark.Tie as tie
 
 states-before-requires : tie.Need-states-before-requires
 states-before-requires c κs =
-    let s = c .before .before .before in
+    let s = c .before .before .before .before in
     let b = s .args .t1 in
-    (s .pre .0 .few, λ u. let f : Fits w64 (getD (b .follow) u 0) = search needs in row-below b (s .pre .0) u (f .fits))
+    (s .pre .0 .few, λ u. let f : Fits w64 (getD (b .follow) u 0) = search needs in row-below b (s .args .more .now) (s .pre .0) u (f .fits))
 
 holders-of-requires : tie.Need-holders-of-requires
-holders-of-requires c κs = c .before .before .before .before .before .pre .0 .few
+holders-of-requires c κs = c .before .before .before .before .before .before .pre .0 .few
 
 slice-aggregate-run : tie.Need-slice-aggregate-run
 slice-aggregate-run c = search needs
@@ -30,19 +30,19 @@ slice-aggregate-run-2 c = search needs
 
 run-requires : tie.Need-run-requires
 run-requires c κs =
-    let s = c .before .before .before .before .before .before .before .before .before .before .before .before in
+    let s = c .before .before .before .before .before .before .before .before .before .before .before .before .before in
     let holders = c .before .before .before .before .before .before .holders-of in
     let fits : (x : ℕ) → Fits w64 (getD (holders .result) x 0) = λ x. search needs in
-    (omega arith, omega arith, s .pre .1, λ x. holders-low (s .args .t1) (s .pre .0) (holders .result) (holders .ensures) x (fits x .fits))
+    (omega arith, omega arith, s .pre .3, (λ x. holders-low (s .args .t1) (s .args .more .now) (s .pre .0) (holders .result) (holders .ensures) x (fits x .fits)), omega (arith, s .pre .2))
 
 returns : tie.Need-returns
 returns c =
-    let s = c .before .before .before .before .before .before .before .before .before .before .before .before .before .before .before in
+    let s = c .before .before .before .before .before .before .before .before .before .before .before .before .before .before .before .before in
     let b = s .args .t1 in
     let r = c .before .before .run in
     let holders = c .before .before .before .before .before .before .before .before .before .holders-of in
     let before = c .before .before .before .before .before .before .before .before .before .before .before .states-before in
-    let same = tables-show b (s .pre .0) (holders .result) (holders .ensures) (before .result) (before .ensures) in
+    let same = tables-show b (s .args .more .now) (s .pre .0) (holders .result) (holders .ensures) (s .pre .1) (before .result) (before .ensures) in
     (refl, subst (λ (g : Graph). Answered g (s .args .answer .now) (r .result .count) (r .result .most)) same (r .ensures (b .positions) (subst Bounded (sym same) (s .pre .0))))
 
 pub mark-spec : {M : Type 1} → statement M

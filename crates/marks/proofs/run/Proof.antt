@@ -1,6 +1,7 @@
 -- The rows say at every letter what they are to say. Assumes nothing.
 use mathlib.Core.Path.{_≡_, refl, sym, ap, _∙_, subst}
 use mathlib.Core.Logic.{_⊎_, inl, inr, ⊎-elim}
+use mathlib.Core.Bool.{Bool}
 use mathlib.Core.List.{List}
 use Prim.Native.Nat.{ℕ, _-_, _≤_, _<_, _^_, zero-le}
 use native.Mathlib.Nat.{lt-of-le-of-lt}
@@ -18,19 +19,19 @@ use Rattle.marks.proofs.run.Statement.{statement}
 use Rattle.marks.proofs.run.Tie as tie
 
 -- after k letters
-record Running (counts₀ best₀ answer holders before : List ℕ) (lasts : ℕ) (credits : List ℕ) (counts best : List ℕ) (active from k : ℕ) : Type 0 where
+record Running (counts₀ best₀ answer holders before : List ℕ) (lasts : ℕ) (credits : List ℕ) (linked : Bool) (more : List ℕ) (counts best : List ℕ) (active from k : ℕ) : Type 0 where
   pub small : active < 2 ^ 61
   pub within : k ≤ length answer
   pub turn : (from ≡ 0) ⊎ (from ≡ 61)
   pub sizeC : length counts ≡ length counts₀
   pub sizeB : length best ≡ length best₀
-  pub row : (positions : ℕ) → Bounded (graphOfTables positions holders before lasts credits) → Row (graphOfTables positions holders before lasts credits) (take k answer) from active counts best
+  pub row : (positions : ℕ) → Bounded (graphOfTables positions holders before lasts credits linked more) → Row (graphOfTables positions holders before lasts credits linked more) (take k answer) from active counts best
 
 abbrev Inv-loop : tie.InvT-loop
-Inv-loop counts₀ best₀ answer holders before lasts credits active₀ from₀ k₀ counts best active from k = Running counts₀ best₀ answer holders before lasts credits counts best active from k
+Inv-loop counts₀ best₀ answer holders before lasts credits linked more active₀ from₀ k₀ counts best active from k = Running counts₀ best₀ answer holders before lasts credits linked more counts best active from k
 
 abbrev μ-loop : tie.MeasureT-loop
-μ-loop counts₀ best₀ answer holders before lasts credits active₀ from₀ k₀ counts best active from k = length answer - k
+μ-loop counts₀ best₀ answer holders before lasts credits linked more active₀ from₀ k₀ counts best active from k = length answer - k
 
 slice-write-counts : tie.Need-slice-write-counts Inv-loop μ-loop
 slice-write-counts c = omega arith
@@ -40,7 +41,7 @@ slice-write-best c = omega arith
 
 loop-holds : tie.Need-loop-holds Inv-loop μ-loop
 loop-holds c =
-    let a = c .before .before .before .args in
+    let a = c .before .before .before .before .args in
     record {
       small = omega arith;
       within = zero-le;
@@ -48,7 +49,7 @@ loop-holds c =
       sizeC = refl;
       sizeB = refl;
       row = λ p _.
-          row-begin (graphOfTables p (a .holders .now) (a .before .now) (a .lasts) (a .credits .now)) 0 _ _ (getD-set-same (a .counts .now) 0 1 0 (omega arith))
+          row-begin (graphOfTables p (a .holders .now) (a .before .now) (a .lasts) (a .credits .now) (a .linked) (a .more .now)) 0 _ _ (getD-set-same (a .counts .now) 0 1 0 (omega arith))
           (getD-set-same (a .best .now) 0 0 0 (omega arith));
     }
 
@@ -59,18 +60,18 @@ shared-slice-read-holds : tie.Need-shared-slice-read-holds Inv-loop μ-loop
 shared-slice-read-holds c = omega arith
 
 cast-holds : tie.Need-cast-holds Inv-loop μ-loop
-cast-holds c = omega (arith, c .shared-slice-known2 .given (c .before .before .before .loop .k))
+cast-holds c = omega (arith, c .shared-slice-known3 .given (c .before .before .before .loop .k))
 
 mul-holds : tie.Need-mul-holds Inv-loop μ-loop
-mul-holds c = omega (arith, c .shared-slice-known2 .given (c .before .before .before .loop .k))
+mul-holds c = omega (arith, c .shared-slice-known3 .given (c .before .before .before .loop .k))
 
 element-copy-out-holds : tie.Need-element-copy-out-holds Inv-loop μ-loop
-element-copy-out-holds c = omega (arith, c .shared-slice-known2 .given (c .before .before .before .loop .k))
+element-copy-out-holds c = omega (arith, c .shared-slice-known3 .given (c .before .before .before .loop .k))
 
 step-requires : tie.Need-step-requires Inv-loop μ-loop
 step-requires c κs =
     let at = c .before .before .before .before .before .before .loop in
-    let s = c .before .before .before .before .before .before .before .before .before .before in
+    let s = c .before .before .before .before .before .before .before .before .before .before .before in
     let a = s .args in
     let sizeC = at .inv .sizeC ∙ length-set (a .counts .now) 0 1 in
     let sizeB = at .inv .sizeB ∙ length-set (a .best .now) 0 0 in
@@ -78,8 +79,8 @@ step-requires c κs =
     let pre = s .pre in
     let holds = pre .3 (getD (a .answer .now) (at .k) 0) in
     ⊎-elim
-    (λ e. (small, holds, omega arith, omega arith, omega arith, omega arith, λ i l j m z. omega arith))
-    (λ e. (small, holds, omega arith, omega arith, omega arith, omega arith, λ i l j m z. omega arith))
+    (λ e. (small, holds, omega arith, omega arith, omega arith, omega arith, λ i l j m z. omega arith, pre .4))
+    (λ e. (small, holds, omega arith, omega arith, omega arith, omega arith, λ i l j m z. omega arith, pre .4))
     (at .inv .turn)
 
 add-k : tie.Need-add-k Inv-loop μ-loop
@@ -91,10 +92,10 @@ loop-less c = omega arith
 loop-again : tie.Need-loop-again Inv-loop μ-loop
 loop-again c =
     let at = c .before .before .before .before .before .before .before .before .before .before .before .loop in
-    let s = c .before .before .before .before .before .before .before .before .before .before .before .before .before .before .before in
+    let s = c .before .before .before .before .before .before .before .before .before .before .before .before .before .before .before .before in
     let a = s .args in
     let st = c .before .before .before .before .step in
-    let more = c .before .before .before .before .before .before .before .before .before .before .loop-test .taken in
+    let goes = c .before .before .before .before .before .before .before .before .before .before .loop-test .taken in
     let b = getD (a .answer .now) (at .k) 0 in
     let q = take (at .k) (a .answer .now) in
     record {
@@ -104,16 +105,16 @@ loop-again c =
       sizeC = st .ensures .counted .size ∙ at .inv .sizeC;
       sizeB = st .ensures .marked .size ∙ at .inv .sizeB;
       row = λ p bounded.
-          subst (λ (x : List ℕ). Row (graphOfTables p (a .holders .now) (a .before .now) (a .lasts) (a .credits .now)) x (61 - at .from) (st .result) (st .last .0) (st .last .1 .0))
-          (sym (ap (λ (n : ℕ). take n (a .answer .now)) (add-one (at .k)) ∙ take-suc (a .answer .now) (at .k) 0 more))
-          (row-on (graphOfTables p (a .holders .now) (a .before .now) (a .lasts) (a .credits .now)) bounded b (a .before .now) (a .credits .now) (at .from) (61 - at .from) (at .active) (getD (a .holders .now) b 0) (st .result) (at .counts) (at .best) (st .last .0) (st .last .1 .0) q
+          subst (λ (x : List ℕ). Row (graphOfTables p (a .holders .now) (a .before .now) (a .lasts) (a .credits .now) (a .linked) (a .more .now)) x (61 - at .from) (st .result) (st .last .0) (st .last .1 .0))
+          (sym (ap (λ (n : ℕ). take n (a .answer .now)) (add-one (at .k)) ∙ take-suc (a .answer .now) (at .k) 0 goes))
+          (row-on (graphOfTables p (a .holders .now) (a .before .now) (a .lasts) (a .credits .now) (a .linked) (a .more .now)) bounded b (a .linked) (a .more .now) (a .before .now) (a .credits .now) (at .from) (61 - at .from) (at .active) (getD (a .holders .now) b 0) (st .result) (at .counts) (at .best) (st .last .0) (st .last .1 .0) q
           (λ u i. refl) (λ i. refl) (λ i. refl) (at .inv .small) (omega (arith, length-take-le (at .k) (a .answer .now) (at .inv .within), s .pre .2)) (at .inv .row p bounded) (st .ensures));
     }
 
 gather-requires : tie.Need-gather-requires Inv-loop μ-loop
 gather-requires c κs =
     let at = c .before .before .before .loop in
-    let s = c .before .before .before .before .before .before .before in
+    let s = c .before .before .before .before .before .before .before .before in
     let a = s .args in
     let sizeC = at .inv .sizeC ∙ length-set (a .counts .now) 0 1 in
     let sizeB = at .inv .sizeB ∙ length-set (a .best .now) 0 0 in
@@ -122,17 +123,17 @@ gather-requires c κs =
     ⊎-elim (λ e. (small, omega arith, omega arith)) (λ e. (small, omega arith, omega arith)) (at .inv .turn)
 
 same-length : tie.Need-same-length Inv-loop μ-loop
-same-length c = c .before .before .before .before .loop .inv .sizeC ∙ length-set (c .before .before .before .before .before .before .before .before .args .counts .now) 0 1
+same-length c = c .before .before .before .before .loop .inv .sizeC ∙ length-set (c .before .before .before .before .before .before .before .before .before .args .counts .now) 0 1
 
 same-length-2 : tie.Need-same-length-2 Inv-loop μ-loop
-same-length-2 c = c .before .before .before .before .loop .inv .sizeB ∙ length-set (c .before .before .before .before .before .before .before .before .args .best .now) 0 0
+same-length-2 c = c .before .before .before .before .loop .inv .sizeB ∙ length-set (c .before .before .before .before .before .before .before .before .before .args .best .now) 0 0
 
 returns : tie.Need-returns Inv-loop μ-loop
 returns c p bounded =
     let at = c .before .before .before .before .loop in
-    let a = c .before .before .before .before .before .before .before .before .args in
+    let a = c .before .before .before .before .before .before .before .before .before .args in
     let s = a .answer .now in
-    let g = graphOfTables p (a .holders .now) (a .before .now) (a .lasts) (a .credits .now) in
+    let g = graphOfTables p (a .holders .now) (a .before .now) (a .lasts) (a .credits .now) (a .linked) (a .more .now) in
     let row = at .inv .row p bounded in
     let whole : Row g s (at .from) (at .active) (at .counts) (at .best) =
     ⊎-elim

@@ -8,10 +8,10 @@ use Rattle.nodes.proofs.new_pair.Statement.{statement}
 use Rattle.nodes.proofs.new_pair.Tie as tie
 
 abbrev Inv-loop : tie.InvT-loop
-Inv-loop shares seen from to parted left₀ left = Passed from left (λ a. (b : ℕ) → Free shares seen from to parted a b → ⊥)
+Inv-loop shares seen from to own left₀ left = Passed from left (λ a. (b : ℕ) → Free shares seen from to own a b → ⊥)
 
 abbrev μ-loop : tie.MeasureT-loop
-μ-loop shares seen from to parted left₀ left = left
+μ-loop shares seen from to own left₀ left = left
 
 loop-holds : tie.Need-loop-holds Inv-loop μ-loop
 loop-holds c = passed-start _ _

@@ -21,14 +21,21 @@ returns c =
     let r = n .before in
     find-single (n .difference .result) (r .before .if1 .taken) (r .row .ensures) (n .difference .ensures) (c .lowest .ensures .1 .here) (c .lowest .ensures .0)
 
+mul-new-pair : tie.Need-mul-new-pair
+mul-new-pair c = search needs
+
+element-copy-out-new-pair : tie.Need-element-copy-out-new-pair
+element-copy-out-new-pair c = search needs
+
 new-pair-requires : tie.Need-new-pair-requires
-new-pair-requires c κs = let p = row-positions (c .before .before .row .ensures) in (p, p)
+new-pair-requires c κs = let p = row-positions (c .before .before .before .row .ensures) in (p, p)
 
 returns-2 : tie.Need-returns-2
 returns-2 c =
-    let n = c .before .before in
+    let e = c .before .before in
+    let n = e .before in
     let r = n .before in
-    find-parting (n .difference .result) (r .before .if1 .taken) (r .row .ensures) (n .difference .ensures) (omega (arith, c .before .if2 .left)) (c .new-pair .ensures)
+    find-parting (n .difference .result) (r .before .if1 .taken) (r .row .ensures) (n .difference .ensures) (omega (arith, e .if2 .left)) (c .new-pair .ensures)
 
 returns-3 : tie.Need-returns-3
 returns-3 c = find-nothing (λ n. ⊎-elim (λ k. omega (arith, c .before .if1 .left)) (λ k. omega (arith, c .if3 .taken)) (node-cases _ n))
@@ -59,6 +66,8 @@ next-new-spec =
     difference-requires
     lowest-requires
     returns
+    mul-new-pair
+    element-copy-out-new-pair
     new-pair-requires
     returns-2
     returns-3

@@ -1,4 +1,4 @@
--- Where it goes round, its firsts may follow its lasts. Assumes nothing.
+-- Where it goes round, its firsts may follow its lasts by one link more. Assumes nothing.
 use borrow.Author.Needs.{needs}
 use Rattle.parsed.proofs.Standing.{again-stands}
 use Rattle.parsed.proofs.again.Statement.{statement}
@@ -13,10 +13,13 @@ link-requires c κs = search needs
 add-out : tie.Need-add-out
 add-out c = search needs
 
+same-length : tie.Need-same-length
+same-length c = search needs
+
 returns : tie.Need-returns
 returns c =
-    let linked = c .before .before .link .ensures in
-    (λ s at n m sets credits R k e f g l w. again-stands s at n m _ sets credits R _ w k _ _ e f g l _ _ (c .before .before .before .before .union-if .ensures) (linked .0), linked .1)
+    let linked = c .before .before .before .before .before .link .ensures in
+    (λ s at n m sets credits R k e f g l w. again-stands s at n m _ _ sets credits R _ w k _ _ e f g l _ _ _ _ (c .before .before .before .before .before .before .before .before .union-if .ensures) linked, linked .rows-are)
 
 pub again-spec : {M : Type 1} → statement M
-again-spec = tie.close (tie.spec union-if-requires link-requires add-out returns)
+again-spec = tie.close (tie.spec union-if-requires link-requires add-out same-length returns)

@@ -20,7 +20,7 @@ nothing-requires : tie.Need-nothing-requires
 nothing-requires c κs = search needs
 
 returns : tie.Need-returns
-returns c rows =
+returns c rows more =
     let a = c .before .before .before .atom in
     stands-not _ _ _ _ _ _ _ _ _ refl (sym (a .ensures .same) ∙ not-true (a .result .good) (c .before .if1 .taken))
 

@@ -40,38 +40,38 @@ use Rattle.parsed.proofs.repeat.Reads as repeat-reads
 use Rattle.parts.proofs.+branch+pattern+piece.{statement}
 use Rattle.parts.proofs.+branch+pattern+piece.Tie.{close}
 
-abbrev μ-branch : Measures 3 branch-kinds.ps ℕ
+abbrev μ-branch : Measures 4 branch-kinds.ps ℕ
 μ-branch κs a = 3 * (length (a .0 .now) - a .1 .0) + 1
 
-abbrev μ-pattern : Measures 3 pattern-kinds.ps ℕ
+abbrev μ-pattern : Measures 4 pattern-kinds.ps ℕ
 μ-pattern κs a = 3 * (length (a .0 .now) - a .1 .0) + 2
 
-abbrev μ-piece : Measures 3 piece-kinds.ps ℕ
+abbrev μ-piece : Measures 4 piece-kinds.ps ℕ
 μ-piece κs a = 3 * (length (a .0 .now) - a .1 .0) + 0
 
-abbrev branch-at : ℕ → In 3 branch-kinds.ps
-branch-at t = and 3 branch-kinds.ps (is 3 branch-kinds.ps μ-branch t) branch.Pre
+abbrev branch-at : ℕ → In 4 branch-kinds.ps
+branch-at t = and 4 branch-kinds.ps (is 4 branch-kinds.ps μ-branch t) branch.Pre
 
-abbrev branch-below : ℕ → In 3 branch-kinds.ps
-branch-below t = and 3 branch-kinds.ps (falls 3 branch-kinds.ps _<_ μ-branch t) branch.Pre
+abbrev branch-below : ℕ → In 4 branch-kinds.ps
+branch-below t = and 4 branch-kinds.ps (falls 4 branch-kinds.ps _<_ μ-branch t) branch.Pre
 
-abbrev pattern-at : ℕ → In 3 pattern-kinds.ps
-pattern-at t = and 3 pattern-kinds.ps (is 3 pattern-kinds.ps μ-pattern t) pattern.Pre
+abbrev pattern-at : ℕ → In 4 pattern-kinds.ps
+pattern-at t = and 4 pattern-kinds.ps (is 4 pattern-kinds.ps μ-pattern t) pattern.Pre
 
-abbrev pattern-below : ℕ → In 3 pattern-kinds.ps
-pattern-below t = and 3 pattern-kinds.ps (falls 3 pattern-kinds.ps _<_ μ-pattern t) pattern.Pre
+abbrev pattern-below : ℕ → In 4 pattern-kinds.ps
+pattern-below t = and 4 pattern-kinds.ps (falls 4 pattern-kinds.ps _<_ μ-pattern t) pattern.Pre
 
-abbrev piece-at : ℕ → In 3 piece-kinds.ps
-piece-at t = and 3 piece-kinds.ps (is 3 piece-kinds.ps μ-piece t) piece.Pre
+abbrev piece-at : ℕ → In 4 piece-kinds.ps
+piece-at t = and 4 piece-kinds.ps (is 4 piece-kinds.ps μ-piece t) piece.Pre
 
-abbrev piece-below : ℕ → In 3 piece-kinds.ps
-piece-below t = and 3 piece-kinds.ps (falls 3 piece-kinds.ps _<_ μ-piece t) piece.Pre
+abbrev piece-below : ℕ → In 4 piece-kinds.ps
+piece-below t = and 4 piece-kinds.ps (falls 4 piece-kinds.ps _<_ μ-piece t) piece.Pre
 
 abbrev branch-Inv-loop : branch-lts.InvT-loop
-branch-Inv-loop s at n sets₀ credits₀ all₀ so-far₀ sets credits all so-far = (length all ≡ 61) × Sized sets credits × Sofar pieces s at n (memory all₀ sets₀ credits₀) (memory all sets credits) so-far
+branch-Inv-loop s at n sets₀ credits₀ more₀ all₀ so-far₀ sets credits more all so-far = (length all ≡ 61) × Sized sets credits × Sofar pieces s at n (memory all₀ more₀ sets₀ credits₀) (memory all more sets credits) so-far × (length more ≡ 3721)
 
 abbrev branch-μ-loop : branch-lts.MeasureT-loop
-branch-μ-loop s at n sets₀ credits₀ all₀ so-far₀ sets credits all so-far = length s - so-far .at
+branch-μ-loop s at n sets₀ credits₀ more₀ all₀ so-far₀ sets credits more all so-far = length s - so-far .at
 
 abbrev branch-env : ℕ → branch-lts.Claims
 branch-env t = (nothing-reads.Asked, nothing-reads.Learnt, byte-at-reads.Asked, byte-at-reads.Learnt, piece-below t, piece.Post, lettered-reads.Asked, lettered-reads.Learnt, join-reads.Asked, join-reads.Learnt, goes-on-reads.Asked, goes-on-reads.Learnt)
@@ -89,91 +89,98 @@ module _ (t : ℕ) (c : branch-lts.Joined1 (branch-env t) (branch-at t) branch.P
   loop-of = c .before .before .loop
 
   abbrev text : List ℕ
-  text = c .before .before .before .before .before .before .before .args .s .now
+  text = c .before .before .before .before .before .before .before .before .args .s .now
 
   abbrev then : Memory
-  then = memory (loop-of .all) (loop-of .sets) (loop-of .credits)
+  then = memory (loop-of .all) (loop-of .more) (loop-of .sets) (loop-of .credits)
 
-  next-parses : Parses pieceFrom 0 text (loop-of .so-far .at) (loop-of .so-far .n) then (memory (c .if1 .all) (c .if1 .sets) (c .if1 .credits)) (c .if1 .next)
+  next-parses : Parses pieceFrom 0 text (loop-of .so-far .at) (loop-of .so-far .n) then (memory (c .if1 .all) (c .if1 .more) (c .if1 .sets) (c .if1 .credits)) (c .if1 .next)
   next-parses =
       ⊎-elim
-      (λ w. parses-as pieceFrom 0 text (loop-of .so-far .at) (loop-of .so-far .n) then (w .12) (w .10) (w .11) (w .13) (w .3 .ensures))
-      (λ w. parses-as pieceFrom 0 text (loop-of .so-far .at) (loop-of .so-far .n) then (w .11) (w .9) (w .10) (w .12)
-      (piece-letter text (loop-of .so-far .at) (loop-of .so-far .n) then _ _ (λ e. w .0 .left (c .before .byte-at .ensures ∙ e)) (w .4 .ensures .0)))
+      (λ w. parses-as pieceFrom 0 text (loop-of .so-far .at) (loop-of .so-far .n) then (w .16) (w .15) (w .13) (w .14) (w .17) (w .4 .ensures))
+      (λ w. parses-as pieceFrom 0 text (loop-of .so-far .at) (loop-of .so-far .n) then (w .15) (w .14) (w .12) (w .13) (w .16)
+      (piece-letter text (loop-of .so-far .at) (loop-of .so-far .n) then _ _ (λ e. w .0 .left (c .before .byte-at .ensures ∙ e)) (w .5 .ensures .0)))
       (c .if1 .came)
 
   next-rows : length (c .if1 .all) ≡ 61
   next-rows =
-      ⊎-elim (λ w. let l : length (w .3 .result .rows) ≡ 61 = search needs in ap length (w .12) ∙ l) (λ w. ap length (w .11) ∙ w .4 .ensures .1) (c .if1 .came)
+      ⊎-elim (λ w. let l : length (w .4 .result .rows) ≡ 61 = search needs in ap length (w .16) ∙ l) (λ w. ap length (w .15) ∙ w .5 .ensures .1) (c .if1 .came)
 
   next-sized : Sized (c .if1 .sets) (c .if1 .credits)
   next-sized =
       ⊎-elim
-      (λ w. record { sets-are = ap length (w .10) ∙ w .3 .kept .1 .1 .1 .1 .0 ∙ loop-of .inv .1 .sets-are; credits-are = ap length (w .11) ∙ w .3 .kept .1 .1 .1 .1 .1 .0 ∙ loop-of .inv .1 .credits-are })
-      (λ w. record { sets-are = ap length (w .9) ∙ w .4 .kept .1 .1 .1 .1 .0 ∙ loop-of .inv .1 .sets-are; credits-are = ap length (w .10) ∙ w .4 .kept .1 .1 .1 .1 .1 .0 ∙ loop-of .inv .1 .credits-are })
+      (λ w. record { sets-are = ap length (w .13) ∙ w .4 .kept .1 .1 .1 .1 .0 ∙ loop-of .inv .1 .sets-are; credits-are = ap length (w .14) ∙ w .4 .kept .1 .1 .1 .1 .1 .0 ∙ loop-of .inv .1 .credits-are })
+      (λ w. record { sets-are = ap length (w .12) ∙ w .5 .kept .1 .1 .1 .1 .0 ∙ loop-of .inv .1 .sets-are; credits-are = ap length (w .13) ∙ w .5 .kept .1 .1 .1 .1 .1 .0 ∙ loop-of .inv .1 .credits-are })
       (c .if1 .came)
+
+  next-more : length (c .if1 .more) ≡ 3721
+  next-more =
+      ⊎-elim (λ w. ap length (w .15) ∙ w .4 .kept .1 .1 .1 .1 .1 .1 .0 ∙ loop-of .inv .3) (λ w. ap length (w .14) ∙ w .5 .kept .1 .1 .1 .1 .1 .1 .0 ∙ loop-of .inv .3) (c .if1 .came)
 
 branch-nothing-requires : (t : ℕ) → branch-lts.Need-nothing-requires (branch-env t) (branch-at t) branch.Post branch-Inv-loop branch-μ-loop
 branch-nothing-requires t c κs = search needs
 
 branch-loop-holds : (t : ℕ) → branch-lts.Need-loop-holds (branch-env t) (branch-at t) branch.Post branch-Inv-loop branch-μ-loop
-branch-loop-holds t c = (search needs, c .before .before .before .before .pre .1 .1, begins pieces _ _ _ _ (c .before .before .before .before .pre .1 .0) _ (c .nothing .ensures))
+branch-loop-holds t c = (search needs, c .before .before .before .before .before .pre .1 .1, begins pieces _ _ _ _ (c .before .before .before .before .before .pre .1 .0) _ (c .nothing .ensures), c .before .before .before .before .before .pre .1 .2)
 
 branch-byte-at-requires : (t : ℕ) → branch-lts.Need-byte-at-requires (branch-env t) (branch-at t) branch.Post branch-Inv-loop branch-μ-loop
 branch-byte-at-requires t c κs = search needs
 
 branch-piece-requires : (t : ℕ) → branch-lts.Need-piece-requires (branch-env t) (branch-at t) branch.Post branch-Inv-loop branch-μ-loop
 branch-piece-requires t c κs =
-    let loop = c .before .before .before .before .loop in
+    let loop = c .before .before .before .before .before .loop in
     let on = loop .inv .2 .on in
-    (omega arith, (loop .inv .2 .few, loop .inv .1, sym (c .before .before .before .byte-at .ensures) ∙ c .before .before .if1 .taken))
+    (omega arith, (loop .inv .2 .few, loop .inv .1, loop .inv .3, sym (c .before .before .before .before .byte-at .ensures) ∙ c .before .before .before .if1 .taken))
 
 branch-lettered-requires : (t : ℕ) → branch-lts.Need-lettered-requires (branch-env t) (branch-at t) branch.Post branch-Inv-loop branch-μ-loop
-branch-lettered-requires t c κs = let loop = c .before .before .before .before .before .loop in (loop .inv .2 .few, loop .inv .1, loop .inv .0)
+branch-lettered-requires t c κs = let loop = c .before .before .before .before .before .before .loop in (loop .inv .2 .few, loop .inv .1, loop .inv .0, loop .inv .3)
 
 branch-join-requires : (t : ℕ) → branch-lts.Need-join-requires (branch-env t) (branch-at t) branch.Post branch-Inv-loop branch-μ-loop
-branch-join-requires t c κs = next-rows t (c .before)
+branch-join-requires t c κs = (next-rows t (c .before .before), next-more t (c .before .before))
 
 branch-goes-on-requires : (t : ℕ) → branch-lts.Need-goes-on-requires (branch-env t) (branch-at t) branch.Post branch-Inv-loop branch-μ-loop
 branch-goes-on-requires t c κs = search needs
 
 branch-same-length : (t : ℕ) → branch-lts.Need-same-length (branch-env t) (branch-at t) branch.Post branch-Inv-loop branch-μ-loop
-branch-same-length t c = next-sized t (c .before .before .before .before) .sets-are ∙ sym (c .before .before .before .before .before .before .before .before .before .before .before .pre .1 .1 .sets-are)
+branch-same-length t c = next-sized t (c .before .before .before .before .before .before .before) .sets-are ∙ sym (c .before .before .before .before .before .before .before .before .before .before .before .before .before .before .before .pre .1 .1 .sets-are)
 
 branch-same-length-2 : (t : ℕ) → branch-lts.Need-same-length-2 (branch-env t) (branch-at t) branch.Post branch-Inv-loop branch-μ-loop
-branch-same-length-2 t c = next-sized t (c .before .before .before .before) .credits-are ∙ sym (c .before .before .before .before .before .before .before .before .before .before .before .pre .1 .1 .credits-are)
+branch-same-length-2 t c = next-sized t (c .before .before .before .before .before .before .before) .credits-are ∙ sym (c .before .before .before .before .before .before .before .before .before .before .before .before .before .before .before .pre .1 .1 .credits-are)
+
+branch-same-length-3 : (t : ℕ) → branch-lts.Need-same-length-3 (branch-env t) (branch-at t) branch.Post branch-Inv-loop branch-μ-loop
+branch-same-length-3 t c = c .before .before .before .before .join .ensures .links .more-are ∙ sym (c .before .before .before .before .before .before .before .before .before .before .before .before .before .before .before .pre .1 .2)
 
 branch-returns : (t : ℕ) → branch-lts.Need-returns (branch-env t) (branch-at t) branch.Post branch-Inv-loop branch-μ-loop
 branch-returns t c =
-    ends pieces _ _ _ _ _ _ _ _ _ _ (c .before .before .before .before .before .before .loop .inv .2) (next-parses t (c .before .before .before .before)) (c .before .before .join .ensures .0, refl) (sym (c .before .goes-on .ensures) ∙ not-true (c .before .goes-on .result) (c .if2 .taken))
+    ends pieces _ _ _ _ _ _ _ _ _ _ (c .before .before .before .before .before .before .before .before .before .loop .inv .2) (next-parses t (c .before .before .before .before .before .before .before)) (c .before .before .before .before .join .ensures, refl) (sym (c .before .goes-on .ensures) ∙ not-true (c .before .goes-on .result) (c .if2 .taken))
 
 branch-loop-less : (t : ℕ) → branch-lts.Need-loop-less (branch-env t) (branch-at t) branch.Post branch-Inv-loop branch-μ-loop
 branch-loop-less t c =
-    let more = goes-on pieces _ _ _ _ _ _ _ _ _ _ (c .before .before .before .before .before .before .loop .inv .2) (next-parses t (c .before .before .before .before)) (c .before .before .join .ensures .0, refl) (c .before .before .join .result .at) (sym (add-zero (c .before .before .join .result .at))) (sym (c .before .goes-on .ensures) ∙ not-false (c .before .goes-on .result) (c .if2 .left)) in
-    omega (arith, more .1, more .2)
+    let goes = goes-on pieces _ _ _ _ _ _ _ _ _ _ (c .before .before .before .before .before .before .before .before .before .loop .inv .2) (next-parses t (c .before .before .before .before .before .before .before)) (c .before .before .before .before .join .ensures, refl) (c .before .before .before .before .join .result .at) (sym (add-zero (c .before .before .before .before .join .result .at))) (sym (c .before .goes-on .ensures) ∙ not-false (c .before .goes-on .result) (c .if2 .left)) in
+    omega (arith, goes .1, goes .2)
 
 branch-loop-again : (t : ℕ) → branch-lts.Need-loop-again (branch-env t) (branch-at t) branch.Post branch-Inv-loop branch-μ-loop
 branch-loop-again t c =
-    let more = goes-on pieces _ _ _ _ _ _ _ _ _ _ (c .before .before .before .before .before .before .loop .inv .2) (next-parses t (c .before .before .before .before)) (c .before .before .join .ensures .0, refl) (c .before .before .join .result .at) (sym (add-zero (c .before .before .join .result .at))) (sym (c .before .goes-on .ensures) ∙ not-false (c .before .goes-on .result) (c .if2 .left)) in
-    (c .before .before .join .ensures .1, next-sized t (c .before .before .before .before), more .0)
+    let goes = goes-on pieces _ _ _ _ _ _ _ _ _ _ (c .before .before .before .before .before .before .before .before .before .loop .inv .2) (next-parses t (c .before .before .before .before .before .before .before)) (c .before .before .before .before .join .ensures, refl) (c .before .before .before .before .join .result .at) (sym (add-zero (c .before .before .before .before .join .result .at))) (sym (c .before .goes-on .ensures) ∙ not-false (c .before .goes-on .result) (c .if2 .left)) in
+    (c .before .before .before .before .join .ensures .links .rows-are, next-sized t (c .before .before .before .before .before .before .before), goes .0, c .before .before .before .before .join .ensures .links .more-are)
 
 abbrev pattern-Inv-loop : pattern-lts.InvT-loop
-pattern-Inv-loop s at n sets₀ credits₀ all₀ so-far₀ sets credits all so-far = (length all ≡ 61) × Sized sets credits × Sofar branches s at n (memory all₀ sets₀ credits₀) (memory all sets credits) so-far
+pattern-Inv-loop s at n sets₀ credits₀ more₀ all₀ so-far₀ sets credits more all so-far = (length all ≡ 61) × Sized sets credits × Sofar branches s at n (memory all₀ more₀ sets₀ credits₀) (memory all more sets credits) so-far × (length more ≡ 3721)
 
 abbrev pattern-μ-loop : pattern-lts.MeasureT-loop
-pattern-μ-loop s at n sets₀ credits₀ all₀ so-far₀ sets credits all so-far = length s - so-far .at
+pattern-μ-loop s at n sets₀ credits₀ more₀ all₀ so-far₀ sets credits more all so-far = length s - so-far .at
 
 pattern-nothing-requires : (t : ℕ) → pattern-lts.Need-nothing-requires (pattern-env t) (pattern-at t) pattern.Post pattern-Inv-loop pattern-μ-loop
 pattern-nothing-requires t c κs = search needs
 
 pattern-loop-holds : (t : ℕ) → pattern-lts.Need-loop-holds (pattern-env t) (pattern-at t) pattern.Post pattern-Inv-loop pattern-μ-loop
-pattern-loop-holds t c = (search needs, c .before .before .before .before .pre .1 .1, begins branches _ _ _ _ (c .before .before .before .before .pre .1 .0) _ (c .nothing .ensures))
+pattern-loop-holds t c = (search needs, c .before .before .before .before .before .pre .1 .1, begins branches _ _ _ _ (c .before .before .before .before .before .pre .1 .0) _ (c .nothing .ensures), c .before .before .before .before .before .pre .1 .2)
 
 pattern-branch-requires : (t : ℕ) → pattern-lts.Need-branch-requires (pattern-env t) (pattern-at t) pattern.Post pattern-Inv-loop pattern-μ-loop
 pattern-branch-requires t c κs =
-    let loop = c .before .before .loop in
+    let loop = c .before .before .before .loop in
     let on = loop .inv .2 .on in
-    (omega arith, (loop .inv .2 .few, loop .inv .1))
+    (omega arith, (loop .inv .2 .few, loop .inv .1, loop .inv .3))
 
 pattern-either-requires : (t : ℕ) → pattern-lts.Need-either-requires (pattern-env t) (pattern-at t) pattern.Post pattern-Inv-loop pattern-μ-loop
 pattern-either-requires t c κs = search needs
@@ -182,14 +189,17 @@ pattern-is-bar-requires : (t : ℕ) → pattern-lts.Need-is-bar-requires (patter
 pattern-is-bar-requires t c κs = search needs
 
 pattern-same-length : (t : ℕ) → pattern-lts.Need-same-length (pattern-env t) (pattern-at t) pattern.Post pattern-Inv-loop pattern-μ-loop
-pattern-same-length t c = c .before .before .before .before .before .before .before .before .before .branch .kept .1 .1 .1 .1 .0 ∙ c .before .before .before .before .before .before .before .before .before .before .before .before .loop .inv .1 .sets-are ∙ sym (c .before .before .before .before .before .before .before .before .before .before .before .before .before .before .before .before .before .pre .1 .1 .sets-are)
+pattern-same-length t c = c .before .before .before .before .before .before .before .before .before .before .before .branch .kept .1 .1 .1 .1 .0 ∙ c .before .before .before .before .before .before .before .before .before .before .before .before .before .before .before .loop .inv .1 .sets-are ∙ sym (c .before .before .before .before .before .before .before .before .before .before .before .before .before .before .before .before .before .before .before .before .before .pre .1 .1 .sets-are)
 
 pattern-same-length-2 : (t : ℕ) → pattern-lts.Need-same-length-2 (pattern-env t) (pattern-at t) pattern.Post pattern-Inv-loop pattern-μ-loop
-pattern-same-length-2 t c = c .before .before .before .before .before .before .before .before .before .branch .kept .1 .1 .1 .1 .1 .0 ∙ c .before .before .before .before .before .before .before .before .before .before .before .before .loop .inv .1 .credits-are ∙ sym (c .before .before .before .before .before .before .before .before .before .before .before .before .before .before .before .before .before .pre .1 .1 .credits-are)
+pattern-same-length-2 t c = c .before .before .before .before .before .before .before .before .before .before .before .branch .kept .1 .1 .1 .1 .1 .0 ∙ c .before .before .before .before .before .before .before .before .before .before .before .before .before .before .before .loop .inv .1 .credits-are ∙ sym (c .before .before .before .before .before .before .before .before .before .before .before .before .before .before .before .before .before .before .before .before .before .pre .1 .1 .credits-are)
+
+pattern-same-length-3 : (t : ℕ) → pattern-lts.Need-same-length-3 (pattern-env t) (pattern-at t) pattern.Post pattern-Inv-loop pattern-μ-loop
+pattern-same-length-3 t c = c .before .before .before .before .before .before .before .before .before .before .before .branch .kept .1 .1 .1 .1 .1 .1 .0 ∙ c .before .before .before .before .before .before .before .before .before .before .before .before .before .before .before .loop .inv .3 ∙ sym (c .before .before .before .before .before .before .before .before .before .before .before .before .before .before .before .before .before .before .before .before .before .pre .1 .2)
 
 pattern-returns : (t : ℕ) → pattern-lts.Need-returns (pattern-env t) (pattern-at t) pattern.Post pattern-Inv-loop pattern-μ-loop
 pattern-returns t c =
-    ends branches _ _ _ _ _ _ _ _ _ _ (c .before .before .before .before .before .before .before .before .before .before .before .before .loop .inv .2) (c .before .before .before .before .before .before .before .before .before .branch .ensures) (c .before .before .either .ensures, refl) (sym (c .before .is-bar .ensures) ∙ not-true (c .before .is-bar .result) (c .if1 .taken))
+    ends branches _ _ _ _ _ _ _ _ _ _ (c .before .before .before .before .before .before .before .before .before .before .before .before .before .before .before .loop .inv .2) (c .before .before .before .before .before .before .before .before .before .before .before .branch .ensures) (c .before .before .either .ensures, refl) (sym (c .before .is-bar .ensures) ∙ not-true (c .before .is-bar .result) (c .if1 .taken))
 
 -- a text has fewer bytes than a number can count
 text-fits : (t : ℕ) (c : pattern-lts.After-shared-slice-known (pattern-env t) (pattern-at t) pattern.Post pattern-Inv-loop pattern-μ-loop) → length (c .before .args .s .now) < 2 ^ 64
@@ -198,33 +208,36 @@ text-fits t c = omega arith
 pattern-add-so-far : (t : ℕ) → pattern-lts.Need-add-so-far (pattern-env t) (pattern-at t) pattern.Post pattern-Inv-loop pattern-μ-loop
 pattern-add-so-far t c =
     let bar = sym (c .before .before .is-bar .ensures) ∙ not-false (c .before .before .is-bar .result) (c .before .if1 .left) in
-    omega (arith, bar-within (c .before .before .before .before .before .before .before .before .before .before .before .before .before .before .before .before .before .before .args .s .now) (c .before .before .before .either .result .good) (c .before .before .before .either .result .at) bar, text-fits t (c .before .before .before .before .before .before .before .before .before .before .before .before .before .before .before .before .before))
+    omega (arith, bar-within (c .before .before .before .before .before .before .before .before .before .before .before .before .before .before .before .before .before .before .before .before .before .before .args .s .now) (c .before .before .before .either .result .good) (c .before .before .before .either .result .at) bar, text-fits t (c .before .before .before .before .before .before .before .before .before .before .before .before .before .before .before .before .before .before .before .before .before))
 
 pattern-loop-less : (t : ℕ) → pattern-lts.Need-loop-less (pattern-env t) (pattern-at t) pattern.Post pattern-Inv-loop pattern-μ-loop
 pattern-loop-less t c =
     let bar = sym (c .before .before .is-bar .ensures) ∙ not-false (c .before .before .is-bar .result) (c .before .if1 .left) in
-    let more = goes-on branches _ _ _ _ _ _ _ _ _ _ (c .before .before .before .before .before .before .before .before .before .before .before .before .before .loop .inv .2) (c .before .before .before .before .before .before .before .before .before .before .branch .ensures) (c .before .before .before .either .ensures, refl) (c .before .before .before .either .result .at + 1) refl bar in
-    omega (arith, more .1, bar-within (c .before .before .before .before .before .before .before .before .before .before .before .before .before .before .before .before .before .before .args .s .now) (c .before .before .before .either .result .good) (c .before .before .before .either .result .at) bar)
+    let b = c .before .before .before .before .before .before .before .before .before .before .before .before .branch in
+    let then = memory (b .result .rows) (b .last .1 .1 .1 .1 .1 .1 .0) (b .last .1 .1 .1 .1 .0) (b .last .1 .1 .1 .1 .1 .0) in
+    let goes = goes-on branches _ _ _ _ _ then then _ _ _ (c .before .before .before .before .before .before .before .before .before .before .before .before .before .before .before .before .loop .inv .2) (b .ensures) (c .before .before .before .either .ensures, refl) (c .before .before .before .either .result .at + 1) refl bar in
+    omega (arith, goes .1, bar-within (c .before .before .before .before .before .before .before .before .before .before .before .before .before .before .before .before .before .before .before .before .before .before .args .s .now) (c .before .before .before .either .result .good) (c .before .before .before .either .result .at) bar)
 
 pattern-loop-again : (t : ℕ) → pattern-lts.Need-loop-again (pattern-env t) (pattern-at t) pattern.Post pattern-Inv-loop pattern-μ-loop
 pattern-loop-again t c =
     let bar = sym (c .before .before .is-bar .ensures) ∙ not-false (c .before .before .is-bar .result) (c .before .if1 .left) in
-    let more = goes-on branches _ _ _ _ _ _ _ _ _ _ (c .before .before .before .before .before .before .before .before .before .before .before .before .before .loop .inv .2) (c .before .before .before .before .before .before .before .before .before .before .branch .ensures) (c .before .before .before .either .ensures, refl) (c .before .before .before .either .result .at + 1) refl bar in
-    let b = c .before .before .before .before .before .before .before .before .before .before .branch in
-    let sized = c .before .before .before .before .before .before .before .before .before .before .before .before .before .loop .inv .1 in
-    (search needs, record { sets-are = b .kept .1 .1 .1 .1 .0 ∙ sized .sets-are; credits-are = b .kept .1 .1 .1 .1 .1 .0 ∙ sized .credits-are }, more .0)
+    let b = c .before .before .before .before .before .before .before .before .before .before .before .before .branch in
+    let then = memory (b .result .rows) (b .last .1 .1 .1 .1 .1 .1 .0) (b .last .1 .1 .1 .1 .0) (b .last .1 .1 .1 .1 .1 .0) in
+    let goes = goes-on branches _ _ _ _ _ then then _ _ _ (c .before .before .before .before .before .before .before .before .before .before .before .before .before .before .before .before .loop .inv .2) (b .ensures) (c .before .before .before .either .ensures, refl) (c .before .before .before .either .result .at + 1) refl bar in
+    let sized = c .before .before .before .before .before .before .before .before .before .before .before .before .before .before .before .before .loop .inv .1 in
+    (search needs, record { sets-are = b .kept .1 .1 .1 .1 .0 ∙ sized .sets-are; credits-are = b .kept .1 .1 .1 .1 .1 .0 ∙ sized .credits-are }, goes .0, b .kept .1 .1 .1 .1 .1 .1 .0 ∙ c .before .before .before .before .before .before .before .before .before .before .before .before .before .before .before .before .loop .inv .3)
 
 piece-add-pattern : (t : ℕ) → piece-lts.Need-add-pattern (piece-env t) (piece-at t) piece.Post
 piece-add-pattern t c =
-    let start = c .before .before .before in
-    let inside = next-within (start .args .s .now) (start .args .at) (omega (arith, start .pre .1 .2)) in
+    let start = c .before .before .before .before in
+    let inside = next-within (start .args .s .now) (start .args .at) (omega (arith, start .pre .1 .3)) in
     omega arith
 
 piece-pattern-requires : (t : ℕ) → piece-lts.Need-pattern-requires (piece-env t) (piece-at t) piece.Post
 piece-pattern-requires t c κs =
-    let start = c .before .before .before .before .before in
-    let inside = next-within (start .args .s .now) (start .args .at) (omega (arith, start .pre .1 .2)) in
-    (omega arith, (omega arith, start .pre .1 .1))
+    let start = c .before .before .before .before .before .before .before in
+    let inside = next-within (start .args .s .now) (start .args .at) (omega (arith, start .pre .1 .3)) in
+    (omega arith, (omega arith, start .pre .1 .1, start .pre .1 .2))
 
 piece-closed-requires : (t : ℕ) → piece-lts.Need-closed-requires (piece-env t) (piece-at t) piece.Post
 piece-closed-requires t c κs = search needs
@@ -238,8 +251,11 @@ piece-same-length t c = search needs
 piece-same-length-2 : (t : ℕ) → piece-lts.Need-same-length-2 (piece-env t) (piece-at t) piece.Post
 piece-same-length-2 t c = search needs
 
+piece-same-length-3 : (t : ℕ) → piece-lts.Need-same-length-3 (piece-env t) (piece-at t) piece.Post
+piece-same-length-3 t c = search needs
+
 piece-returns : (t : ℕ) → piece-lts.Need-returns (piece-env t) (piece-at t) piece.Post
-piece-returns t c = piece-open _ _ _ _ _ _ _ _ _ _ _ (c .before .before .before .before .before .before .before .before .before .before .before .before .before .before .pre .1 .2) (c .before .before .before .before .before .before .before .before .pattern .ensures) (c .before .before .closed .ensures _) (c .repeat .ensures .0)
+piece-returns t c = piece-open _ _ _ _ _ _ _ _ _ _ _ _ _ (c .before .before .before .before .before .before .before .before .before .before .before .before .before .before .before .before .before .before .before .before .before .pre .1 .3) (c .before .before .before .before .before .before .before .before .before .before .before .before .before .pattern .ensures) (c .before .before .before .before .before .closed .ensures _ _) (c .before .before .repeat .ensures .0)
 
 pub +branch+pattern+piece-spec : {M : Type 1} → statement M
 +branch+pattern+piece-spec = close μ-branch μ-pattern μ-piece (λ t. branch-lts.spec (branch-env t)
@@ -256,6 +272,7 @@ pub +branch+pattern+piece-spec : {M : Type 1} → statement M
     (branch-goes-on-requires t)
     (branch-same-length t)
     (branch-same-length-2 t)
+    (branch-same-length-3 t)
     (branch-returns t)
     (branch-loop-less t)
     (branch-loop-again t))
@@ -271,6 +288,7 @@ pub +branch+pattern+piece-spec : {M : Type 1} → statement M
     (pattern-is-bar-requires t)
     (pattern-same-length t)
     (pattern-same-length-2 t)
+    (pattern-same-length-3 t)
     (pattern-returns t)
     (pattern-add-so-far t)
     (pattern-loop-less t)
@@ -284,4 +302,5 @@ pub +branch+pattern+piece-spec : {M : Type 1} → statement M
     (piece-repeat-requires t)
     (piece-same-length t)
     (piece-same-length-2 t)
+    (piece-same-length-3 t)
     (piece-returns t)

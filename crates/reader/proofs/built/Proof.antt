@@ -1,6 +1,6 @@
 -- The rows with the firsts in row 0, the lasts with 0 among them where the pattern can be empty, and the sets of the table.
 -- Assumes nothing.
-use mathlib.Core.Path.{_≡_}
+use mathlib.Core.Path.{_≡_, refl}
 use native.Mathlib.Omega.{arith}
 use lib.ListN.{length}
 use borrow.Author.Needs.{needs}
@@ -21,7 +21,10 @@ returns : tie.Need-returns
 returns c =
     let start = c .before .before .before .before .before .args in
     let rows : length (start .p .rows) ≡ 61 = search needs in
-    built-shown (start .p) (start .sets .now) (start .credits) (c .before .sets .result) (c .with-if .result) (omega arith) (c .before .sets .ensures) (c .with-if .ensures)
+    record {
+      graph = built-shown (start .p) (start .sets .now) (start .credits) (c .before .sets .result) (c .with-if .result) (omega arith) (c .before .sets .ensures) (c .with-if .ensures);
+      doubled = refl;
+    }
 
 pub built-spec : {M : Type 1} → statement M
 built-spec = tie.close (tie.spec array-write-follow sets-requires with-if-requires returns)

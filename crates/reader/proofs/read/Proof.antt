@@ -1,5 +1,5 @@
 -- At each return the tests before it did not apply. Where the third does not, the text is a pattern, and what was parsed is the
--- whole of it. Assumes nothing.
+-- whole of it. Where none does, no two states have more than 256 links, so that none is lost. Assumes nothing.
 use mathlib.Core.Path.{_≡_, refl, sym, ap, _∙_}
 use mathlib.Core.Bool.{true, not, _&&_}
 use mathlib.Core.List.{List}
@@ -12,24 +12,25 @@ use borrow.Author.Tests.{lt-ltb, le-ltb, not-false}
 use Rattle.basics.proofs.Tests.{and-parts}
 use Rattle.pattern.specs.Grammar.{readPattern, isPattern, patternPart}
 use Rattle.pattern.specs.Positions.{positions}
+use Rattle.pattern.proofs.Depth.{links-few}
 use Rattle.parsed.specs.Parsed.{shapeOf}
 use Rattle.parts.specs.Parsing.{Whole}
 use Rattle.parsed.proofs.Storing.{none-stored}
-use Rattle.reader.proofs.Building.{stored-bounded}
-use Rattle.reader.proofs.Refusals.{tests, Passes, fails-more, refuses, accepts, whole-pattern}
+use Rattle.reader.proofs.Building.{stored-bounded, single-shown}
+use Rattle.reader.proofs.Refusals.{tests, Passes, fails-more, refuses, no-refusal, accepts, whole-pattern}
 use Rattle.reader.proofs.read.Statement.{statement}
 use Rattle.reader.proofs.read.Tie as tie
 
 -- ---- the text, and the tests that did not apply, at each place
 
 abbrev text1 : tie.Else1 → List ℕ
-text1 c = c .before .before .args .s .now
+text1 c = c .before .before .before .args .s .now
 
 abbrev text2 : tie.Else2 → List ℕ
 text2 c = text1 (c .before .before)
 
 abbrev text3 : tie.Else3 → List ℕ
-text3 c = text2 (c .before .before .before .before .before .before .before .before .before .before)
+text3 c = text2 (c .before .before .before .before .before .before .before .before .before .before .before .before .before)
 
 passes-1 : (c : tie.Else1) → Passes (text1 c) 1
 passes-1 c = (le-ltb 512 (length (text1 c)) (c .if1 .left), tt)
@@ -40,14 +41,14 @@ passes-2 c = fails-more (tests (text2 c)) 1 (passes-1 (c .before .before)) (ap n
 -- the pattern ends with the text
 whole : (c : tie.Else3) → isPattern (text3 c) ≡ true
 whole c =
-    let p = c .before .before .before .before .before .before .parse in
-    sym (whole-pattern (text3 c) _ _ _ (p .result .part) (p .ensures)) ∙ not-false (p .result .part .good && eqb (p .result .part .at) (length (text3 c))) (c .if3 .left)
+    let p = c .before .before .before .before .before .before .before .before .parse in
+    sym (whole-pattern (text3 c) _ _ _ _ (p .result .part) (p .ensures)) ∙ not-false (p .result .part .good && eqb (p .result .part .at) (length (text3 c))) (c .if3 .left)
 
 passes-3 : (c : tie.Else3) → Passes (text3 c) 3
-passes-3 c = fails-more (tests (text3 c)) 2 (passes-2 (c .before .before .before .before .before .before .before .before .before .before)) (ap not (whole c))
+passes-3 c = fails-more (tests (text3 c)) 2 (passes-2 (c .before .before .before .before .before .before .before .before .before .before .before .before .before)) (ap not (whole c))
 
-parsed : (c : tie.Else3) → Whole (shapeOf (patternPart (text3 c))) (c .before .before .before .before .before .before .parse .result .rows) (c .before .before .before .before .before .before .parse .last .1 .0) (c .before .before .before .before .before .before .parse .last .1 .1 .0) (c .before .before .before .before .before .before .parse .result .part)
-parsed c = let p = c .before .before .before .before .before .before .parse in p .ensures .has (p .ensures .same ∙ and-parts (readPattern (text3 c) .good) _ (whole c) .0)
+parsed : (c : tie.Else3) → Whole (shapeOf (patternPart (text3 c))) (c .before .before .before .before .before .before .before .before .parse .result .rows) (c .before .before .before .before .before .before .before .before .parse .last .1 .1 .1 .0) (c .before .before .before .before .before .before .before .before .parse .last .1 .0) (c .before .before .before .before .before .before .before .before .parse .last .1 .1 .0) (c .before .before .before .before .before .before .before .before .parse .result .part)
+parsed c = let p = c .before .before .before .before .before .before .before .before .parse in p .ensures .has (p .ensures .same ∙ and-parts (readPattern (text3 c) .good) _ (whole c) .0)
 
 passes-4 : (c : tie.Else4) → Passes (text3 (c .before)) 4
 passes-4 c = fails-more (tests (text3 (c .before))) 3 (passes-3 (c .before)) (sym (parsed (c .before) .reversed) ∙ c .if4 .left)
@@ -68,8 +69,8 @@ refused-requires c κs = search needs
 
 returns : tie.Need-returns
 returns c =
-    let s = c .before .before .before .args .s .now in
-    refuses s 0 (c .refused .result) tt (lt-ltb 512 (length s) (c .before .if1 .taken)) (c .refused .ensures)
+    let s = c .before .before .before .before .args .s .now in
+    refuses s 0 _ (c .refused .result) tt (lt-ltb 512 (length s) (c .before .if1 .taken)) (c .refused .ensures)
 
 all-letters-requires : tie.Need-all-letters-requires
 all-letters-requires c κs = search needs
@@ -80,7 +81,7 @@ refused-requires-2 c κs = search needs
 returns-2 : tie.Need-returns-2
 returns-2 c =
     let short = c .before .before .before in
-    refuses (text1 short) 1 (c .refused2 .result) (passes-1 short) (ap not (sym (c .before .before .all-letters .ensures)) ∙ c .before .if2 .taken) (c .refused2 .ensures)
+    refuses (text1 short) 1 _ (c .refused2 .result) (passes-1 short) (ap not (sym (c .before .before .all-letters .ensures)) ∙ c .before .if2 .taken) (c .refused2 .ensures)
 
 empty-requires : tie.Need-empty-requires
 empty-requires c κs = search needs
@@ -93,44 +94,56 @@ slice-aggregate-parse-2 c = search needs
 
 parse-requires : tie.Need-parse-requires
 parse-requires c κs =
-    let empty = c .before .before .empty .ensures in
-    (record { sets-are = empty .0; credits-are = refl }, none-stored (c .before .before .empty .result) (empty .1))
+    let empty = c .before .before .before .empty .ensures in
+    (record { sets-are = empty .0; credits-are = refl }, none-stored (c .before .before .before .empty .result) (empty .1), c .before .before .before .before .before .before .before .before .before .pre)
 
 refused-requires-3 : tie.Need-refused-requires-3
 refused-requires-3 c κs = search needs
 
+same-length : tie.Need-same-length
+same-length c = search needs
+
 returns-3 : tie.Need-returns-3
 returns-3 c =
-    let letters = c .before .before .before .before .before .before .before .before .before .before .before in
+    let letters = c .before .before .before .before .before .before .before .before .before .before .before .before .before .before in
     let s = text2 letters in
-    let p = c .before .before .before .before .before .before .before .parse in
-    refuses s 2 (c .refused3 .result) (passes-2 letters) (ap not (sym (whole-pattern s _ _ _ (p .result .part) (p .ensures))) ∙ c .before .if3 .taken) (c .refused3 .ensures)
+    let p = c .before .before .before .before .before .before .before .before .before .parse in
+    refuses s 2 _ (c .refused3 .result) (passes-2 letters) (ap not (sym (whole-pattern s _ _ _ _ (p .result .part) (p .ensures))) ∙ c .before .if3 .taken) (c .refused3 .ensures)
 
 refused-requires-4 : tie.Need-refused-requires-4
 refused-requires-4 c κs = search needs
 
+same-length-2 : tie.Need-same-length-2
+same-length-2 c = search needs
+
 returns-4 : tie.Need-returns-4
 returns-4 c =
     let is = c .before .before in
-    refuses (text3 is) 3 (c .refused4 .result) (passes-3 is) (sym (parsed is .reversed) ∙ c .before .if4 .taken) (c .refused4 .ensures)
+    refuses (text3 is) 3 _ (c .refused4 .result) (passes-3 is) (sym (parsed is .reversed) ∙ c .before .if4 .taken) (c .refused4 .ensures)
 
 refused-requires-5 : tie.Need-refused-requires-5
 refused-requires-5 c κs = search needs
 
+same-length-3 : tie.Need-same-length-3
+same-length-3 c = search needs
+
 returns-5 : tie.Need-returns-5
 returns-5 c =
     let is = c .before .before .before in
-    refuses (text3 is) 4 (c .refused5 .result) (passes-4 (c .before .before)) (sym (parsed is .hollow) ∙ c .before .if5 .taken) (c .refused5 .ensures)
+    refuses (text3 is) 4 _ (c .refused5 .result) (passes-4 (c .before .before)) (sym (parsed is .hollow) ∙ c .before .if5 .taken) (c .refused5 .ensures)
 
 refused-requires-6 : tie.Need-refused-requires-6
 refused-requires-6 c κs = search needs
+
+same-length-4 : tie.Need-same-length-4
+same-length-4 c = search needs
 
 returns-6 : tie.Need-returns-6
 returns-6 c =
     let is = c .before .before .before .before .before in
     let s = text3 is in
     let count = parsed is .count in
-    refuses s 5 (c .refused6 .result) (passes-5 (c .before .before .before)) (lt-ltb 60 (positions (patternPart s)) (omega (arith, c .before .if6 .taken))) (c .refused6 .ensures)
+    refuses s 5 _ (c .refused6 .result) (passes-5 (c .before .before .before)) (lt-ltb 60 (positions (patternPart s)) (omega (arith, c .before .if6 .taken))) (c .refused6 .ensures)
 
 slice-aggregate-built : tie.Need-slice-aggregate-built
 slice-aggregate-built c = search needs
@@ -138,13 +151,19 @@ slice-aggregate-built c = search needs
 built-requires : tie.Need-built-requires
 built-requires c κs = search needs
 
+same-length-5 : tie.Need-same-length-5
+same-length-5 c = search needs
+
 returns-7 : tie.Need-returns-7
 returns-7 c =
     let is = c .before .before .before .before .before .before in
     let s = text3 is in
     let w = parsed is in
     let l = few (c .before .before) in
-    accepts s _ (passes-6 (c .before .before)) refl (c .built .ensures (patternPart s) w l) (stored-bounded (patternPart s) _ _ (w .stored) l)
+    let passes = passes-6 (c .before .before) in
+    let made = c .built .ensures in
+    accepts s _ _ passes refl (made .graph (patternPart s) _ w l (links-few s (no-refusal s passes))) (stored-bounded (patternPart s) _ _ (w .stored) l)
+    (λ d. single-shown (c .built .result) _ 3721 (w .single (sym (made .doubled) ∙ d)))
 
 pub read-spec : {M : Type 1} → statement M
 read-spec =
@@ -160,13 +179,18 @@ read-spec =
     slice-aggregate-parse-2
     parse-requires
     refused-requires-3
+    same-length
     returns-3
     refused-requires-4
+    same-length-2
     returns-4
     refused-requires-5
+    same-length-3
     returns-5
     refused-requires-6
+    same-length-4
     returns-6
     slice-aggregate-built
     built-requires
+    same-length-5
     returns-7)

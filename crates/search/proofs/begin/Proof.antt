@@ -21,7 +21,7 @@ returns c =
     let g = c .before .is-goal in
     let p = c .before .before .before .before .push in
     let s = c .before .before .before .before .before .before .before in
-    (λ F S. search-begin (s .args .scratch .now) (s .args .goal) (s .args .start) (c .only .result) (g .result) (s .pre .0) (s .pre .1) (c .only .ensures) (g .ensures) F S (p .last .0) (p .ensures), g .ensures)
+    (λ F D S. search-begin (s .args .scratch .now) (s .args .goal) (s .args .start) (c .only .result) (g .result) (s .pre .0) (s .pre .1) (c .only .ensures) (g .ensures) F D S (p .last .0) (p .ensures), g .ensures)
 
 pub begin-spec : {M : Type 1} → statement M
 begin-spec = tie.close (tie.spec push-requires is-goal-requires only-requires same-length returns)

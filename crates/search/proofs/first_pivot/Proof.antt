@@ -11,16 +11,16 @@ use Rattle.search.proofs.first_pivot.Statement.{statement}
 use Rattle.search.proofs.first_pivot.Tie as tie
 
 abbrev Inv-loop : tie.InvT-loop
-Inv-loop follow shares scratch₀ positions q at₀ goal seen₀ w₀ scratch at seen w = Looking follow shares scratch₀ scratch seen goal q at₀ at w
+Inv-loop follow doubles shares scratch₀ positions q at₀ goal seen₀ w₀ scratch at seen w = Looking follow doubles shares scratch₀ scratch seen goal q at₀ at w
 
 abbrev μ-loop : tie.MeasureT-loop
-μ-loop follow shares scratch₀ positions q at₀ goal seen₀ w₀ scratch at seen w = 4000 * (2048 - w .tail) + (w .tail - w .head)
+μ-loop follow doubles shares scratch₀ positions q at₀ goal seen₀ w₀ scratch at seen w = 4000 * (2048 - w .tail) + (w .tail - w .head)
 
 abbrev Inv-pivots : tie.InvT-pivots
-Inv-pivots follow shares scratch₀ positions q₀ at₀ scratch q at = Passing follow shares scratch₀ scratch positions q at
+Inv-pivots follow doubles shares scratch₀ positions q₀ at₀ scratch q at = Passing follow doubles shares scratch₀ scratch positions q at
 
 abbrev μ-pivots : tie.MeasureT-pivots
-μ-pivots follow shares scratch₀ positions q₀ at₀ scratch q at = positions + 1 - q
+μ-pivots follow doubles shares scratch₀ positions q₀ at₀ scratch q at = positions + 1 - q
 
 pivots-holds : tie.Need-pivots-holds Inv-loop μ-loop Inv-pivots μ-pivots
 pivots-holds c = record { size = refl; low = le-refl 1; still = refl; none = none-yet }
@@ -43,7 +43,7 @@ loop-holds c =
     record {
       size = refl;
       still = refl;
-      searching = b .ensures .0 (s .args .follow .now) (s .args .shares .now);
+      searching = b .ensures .0 (s .args .follow .now) (s .args .doubles .now) (s .args .shares .now);
       none = b .ensures .1 ∙ start-no-goal (o .only .result) (i .before .pivots .q) (omega (arith, s .pre .1, i .pivots-test .taken));
     }
 
@@ -60,7 +60,7 @@ loop-again : tie.Need-loop-again Inv-loop μ-loop Inv-pivots μ-pivots
 loop-again c =
     let v = c .before .before .before .visit in
     let l = c .before .before .before .before .before .before .before .before .loop in
-    record { size = v .kept .1 .1 .1 .0 ∙ l .inv .size; still = l .inv .still; searching = search-next (l .inv .searching) (l .inv .none) (v .ensures .right (l .inv .searching .sound)); none = c .if2 .left }
+    record { size = v .kept .1 .1 .1 .1 .0 ∙ l .inv .size; still = l .inv .still; searching = search-next (l .inv .searching) (l .inv .none) (v .ensures .right (l .inv .searching .sound)); none = c .if2 .left }
 
 add-q : tie.Need-add-q Inv-loop μ-loop Inv-pivots μ-pivots
 add-q c = let i = c .before .before .before .before .before .before .before .before in omega (arith, i .before .before .before .pre .1, i .pivots-test .taken)
@@ -85,16 +85,16 @@ same-length : tie.Need-same-length Inv-loop μ-loop Inv-pivots μ-pivots
 same-length c = c .before .pivots .inv .size
 
 returns : tie.Need-returns Inv-loop μ-loop Inv-pivots μ-pivots
-returns c g rows sh e =
+returns c g rows db sh e =
     let p = c .before .pivots in
-    none-first (omega (arith, c .pivots-test .left)) (p .inv .none) g rows sh e ∙ sym (p .inv .still)
+    none-first (omega (arith, c .pivots-test .left)) (p .inv .none) g rows db sh e ∙ sym (p .inv .still)
 
 same-length-2 : tie.Need-same-length-2 Inv-loop μ-loop Inv-pivots μ-pivots
 same-length-2 c =
     let v = c .before .before .before .visit in
     let l = c .before .before .before .before .before .before .before .before .loop in
     let b = c .before .before .before .before .before .before .before .before .before .before .before in
-    v .kept .1 .1 .1 .0 ∙ l .inv .size ∙ b .begin .kept .0 ∙ b .before .before .before .before .pivots .inv .size
+    v .kept .1 .1 .1 .1 .0 ∙ l .inv .size ∙ b .begin .kept .0 ∙ b .before .before .before .before .pivots .inv .size
 
 returns-2 : tie.Need-returns-2 Inv-loop μ-loop Inv-pivots μ-pivots
 returns-2 c =
@@ -103,7 +103,7 @@ returns-2 c =
     let o = c .before .before .before .before .before .before .before .before .before .before .before .before .before in
     let p = o .before .before .pivots in
     pivot-first (p .inv .low) (o .before .pivots-test .taken) (o .only .ensures) (p .inv .none)
-    (record { seen = v .last .1 .1 .0; searching = search-next (l .inv .searching) (l .inv .none) (v .ensures .right (l .inv .searching .sound)); over = λ f. absurd (true≢false (sym (c .if2 .taken) ∙ f)) }) (c .if2 .taken)
+    (record { seen = v .last .1 .1 .1 .0; searching = search-next (l .inv .searching) (l .inv .none) (v .ensures .right (l .inv .searching .sound)); over = λ f. absurd (true≢false (sym (c .if2 .taken) ∙ f)) }) (c .if2 .taken)
 
 pub first-pivot-spec : {M : Type 1} → statement M
 first-pivot-spec =

@@ -11,16 +11,16 @@ use Rattle.search.proofs.to_goal.Statement.{statement}
 use Rattle.search.proofs.to_goal.Tie as tie
 
 abbrev Inv-loop : tie.InvT-loop
-Inv-loop follow shares scratch₀ goal start seen₀ w₀ scratch seen w = (length scratch ≡ length scratch₀) × Searching follow shares scratch seen goal start w
+Inv-loop follow doubles shares scratch₀ goal start seen₀ w₀ scratch seen w = (length scratch ≡ length scratch₀) × Searching follow doubles shares scratch seen goal start w
 
 abbrev μ-loop : tie.MeasureT-loop
-μ-loop follow shares scratch₀ goal start seen₀ w₀ scratch seen w = 4000 * (2048 - w .tail) + (w .tail - w .head)
+μ-loop follow doubles shares scratch₀ goal start seen₀ w₀ scratch seen w = 4000 * (2048 - w .tail) + (w .tail - w .head)
 
 begin-requires : tie.Need-begin-requires Inv-loop μ-loop
 begin-requires c κs = (c .before .before .pre .0, omega (arith, c .before .before .pre .1))
 
 loop-holds : tie.Need-loop-holds Inv-loop μ-loop
-loop-holds c = (refl, c .before .before .begin .ensures .0 (c .before .before .before .before .before .args .follow .now) (c .before .before .before .before .before .args .shares .now))
+loop-holds c = let s = c .before .before .before .before .before in (refl, c .before .before .begin .ensures .0 (s .args .follow .now) (s .args .doubles .now) (s .args .shares .now))
 
 visit-requires : tie.Need-visit-requires Inv-loop μ-loop
 visit-requires c κs = c .before .before .before .before .before .before .loop .inv .1 .sound .queue .long
@@ -35,7 +35,7 @@ loop-again : tie.Need-loop-again Inv-loop μ-loop
 loop-again c =
     let v = c .before .before .visit in
     let l = c .before .before .before .before .before .before .before .before .before .loop in
-    (v .kept .1 .1 .1 .0 ∙ l .inv .0, search-next (l .inv .1) (not-true (l .w .found) (c .before .before .before .before .before .if2 .taken)) (v .ensures .right (l .inv .1 .sound)))
+    (v .kept .1 .1 .1 .1 .0 ∙ l .inv .0, search-next (l .inv .1) (not-true (l .w .found) (c .before .before .before .before .before .if2 .taken)) (v .ensures .right (l .inv .1 .sound)))
 
 same-length : tie.Need-same-length Inv-loop μ-loop
 same-length c = c .before .before .before .before .loop .inv .0 ∙ c .before .before .before .before .before .before .before .begin .kept .0

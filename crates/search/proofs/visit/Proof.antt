@@ -14,11 +14,11 @@ use Rattle.search.proofs.visit.Statement.{statement}
 use Rattle.search.proofs.visit.Tie as tie
 
 abbrev Inv-loop : tie.InvT-loop
-Inv-loop follow shares seen₀ scratch₀ goal tail head₀ alone seen scratch head =
-    (scratch ≡ scratch₀) × (SoundSearch follow shares scratch₀ head₀ tail alone seen₀ → SoundSearch follow shares scratch head tail alone seen)
+Inv-loop follow doubles shares seen₀ scratch₀ goal tail head₀ alone seen scratch head =
+    (scratch ≡ scratch₀) × (SoundSearch follow doubles shares scratch₀ head₀ tail alone seen₀ → SoundSearch follow doubles shares scratch head tail alone seen)
 
 abbrev μ-loop : tie.MeasureT-loop
-μ-loop follow shares seen₀ scratch₀ goal tail head₀ alone seen scratch head = tail - head
+μ-loop follow doubles shares seen₀ scratch₀ goal tail head₀ alone seen scratch head = tail - head
 
 returns : tie.Need-returns Inv-loop μ-loop
 returns c = record { ends = inr (refl, le-refl (c .before .before .args .w .tail)); right = λ w. absurd (omega (arith, c .if1 .taken, few-taken w)) }
@@ -46,14 +46,14 @@ push-requires c κs =
     let i = c .before .before .before .before .before in
     (bound i .1, bound i .0, c .before .if2 .taken, omega (arith, bound i))
 
-add-t21 : tie.Need-add-t21 Inv-loop μ-loop
-add-t21 c = omega (arith, bound (c .before .before .before .before .before .before .before .before))
+add-t22 : tie.Need-add-t22 Inv-loop μ-loop
+add-t22 c = omega (arith, bound (c .before .before .before .before .before .before .before .before))
 
 is-goal-requires : tie.Need-is-goal-requires Inv-loop μ-loop
 is-goal-requires c κs = c .before .before .before .before .if2 .taken
 
 take-up-requires : tie.Need-take-up-requires Inv-loop μ-loop
-take-up-requires c κs = fresh-node _ _ _ _ _ _ (c .before .before .before .before .before .before .before .next-new .ensures .some (c .before .before .before .before .before .before .if2 .taken))
+take-up-requires c κs = fresh-node _ _ _ _ _ _ _ (c .before .before .before .before .before .before .before .next-new .ensures .some (c .before .before .before .before .before .before .if2 .taken))
 
 same-length : tie.Need-same-length Inv-loop μ-loop
 same-length c = c .before .before .before .before .before .push .kept .0 ∙ ap length (c .before .before .before .before .before .before .before .before .before .before .before .before .loop .inv .0)
@@ -107,7 +107,7 @@ visit-spec =
     cast-x
     next-new-requires
     push-requires
-    add-t21
+    add-t22
     is-goal-requires
     take-up-requires
     same-length

@@ -6,13 +6,13 @@ use Prim.Native.Nat.{ℕ, _+_, _-_, _≤_, _<_, zero-le}
 use native.Mathlib.Omega.{arith}
 use borrow.Author.Tests.{lt-ltb, le-ltb}
 use lib.Dec.{eqb, ltb}
-use lib.ListN.{getD, set, length, length-set}
-use lib.Seq.{getD-set-same, getD-set-other}
-use Rattle.basics.proofs.Tests.{by-equal, one-further}
+use lib.ListN.{getD, length, length-set}
+use Rattle.basics.proofs.Tests.{one-further}
 use Rattle.bits.specs.Bits.{hasBit}
 use Rattle.bits.proofs.Laws.{has-none}
 use Rattle.alphabet.specs.Alphabet.{someLetter}
 use Rattle.shares.specs.Tables.{held}
+use Rattle.shares.proofs.Filling.{row-filled}
 use Rattle.shares.proofs.share_rows.Statement.{statement}
 use Rattle.shares.proofs.share_rows.Tie as tie
 
@@ -85,17 +85,14 @@ loop-again c =
     let sets = c .before .before .before .before .before .args .t1 in
     let l = c .before .before .before .before .loop in
     let w = c .before .loop2 in
-    let rows = set (l .rows) (l .a) (w .word) in
+    let last = c .before .before .before .before .before .args .positions in
     let size = l .inv .1 .0 in (
       omega arith,
       (
         length-set (l .rows) (l .a) (w .word) ∙ size,
         λ i b k m.
-            by-equal i (l .a)
-            (λ z.
-            let here : getD rows i 0 ≡ w .word = ap (λ (j : ℕ). getD rows j 0) z ∙ getD-set-same (l .rows) (l .a) (w .word) 0 (omega arith) in
-            ap (λ (x : ℕ). hasBit x b) here ∙ w .inv .1 b ∙ ap (λ (t : Bool). t && someLetter (held sets (l .a) b)) (lt-ltb b (w .b) (omega arith)) ∙ ap (λ (j : ℕ). someLetter (held sets j b)) (sym z))
-            (λ d. ap (λ (x : ℕ). hasBit x b) (getD-set-other (l .rows) (l .a) i (w .word) 0 d) ∙ l .inv .1 .1 i b (omega arith) m),
+            row-filled (λ i word. (b : ℕ) → b ≤ last → hasBit word b ≡ someLetter (held sets i b)) (l .rows) (l .a) (w .word) (omega arith) (λ i k b m. l .inv .1 .1 i b k m)
+            (λ b m. w .inv .1 b ∙ ap (λ (t : Bool). t && someLetter (held sets (l .a) b)) (lt-ltb b (w .b) (omega arith))) i k b m,
       ),
     )
 

@@ -9,41 +9,40 @@ use Rattle.vetting.proofs.runaway.Tie as tie
 
 only-requires : tie.Need-only-requires
 only-requires c κs =
-    let s = c .before .before .before .before in
-    omega (arith, first-low (s .pre .0) (s .pre .2) (s .pre .3))
+    let s = c .before .before .before .before .before in
+    omega (arith, first-low (s .pre .0) (s .pre .3) (s .pre .4))
 
 show-requires : tie.Need-show-requires
 show-requires c κs =
-    let s = c .before .before .before .before .before .before .before .before .before in
+    let s = c .before .before .before .before .before .before .before .before .before .before in
     let fit = s .pre .0 in
-    (s .pre .5, omega arith, omega (arith, s .pre .4), fit .bounded .letters, showable fit (honest-none fit))
+    (s .pre .6, omega arith, omega (arith, s .pre .5), fit .bounded .letters, showable fit (honest-none fit))
 
-pivot : (c : tie.After-only) → Pivot (c .before .before .before .before .before .pre .0) (c .before .before .before .before .before .args .q) (c .only .result)
-pivot c = let s = c .before .before .before .before .before in record { is = s .pre .2; some = s .pre .3; only = c .only .ensures }
+pivot : (c : tie.After-only) → Pivot (c .before .before .before .before .before .before .pre .0) (c .before .before .before .before .before .before .args .q) (c .only .result)
+pivot c = let s = c .before .before .before .before .before .before in record { is = s .pre .3; some = s .pre .4; only = c .only .ensures }
 
 arrives : (c : tie.After-show) → c .show .result ≤ 60
 arrives c =
     let o = c .before .before .before .before .before in
-    let s = o .before .before .before .before .before in
-    let fit = s .pre .0 in
+    let fit = o .before .before .before .before .before .before .pre .0 in
     way-in-short fit (pivot o) (way-in-shown fit (pivot o) (c .show .ensures))
 
 loops : (c : tie.After-show2) → c .show2 .result ≤ 1890
 loops c =
     let o = c .before .before .before .before .before .before .before .before .before .before .before .before .before in
-    let s = o .before .before .before .before .before in
-    loops-shown (s .pre .0) (pivot o) (s .pre .1) (c .show2 .ensures) .few
+    let s = o .before .before .before .before .before .before in
+    loops-shown (s .pre .0) (pivot o) (s .pre .1) (s .pre .2) (c .show2 .ensures) .few
 
 show-requires-2 : tie.Need-show-requires-2
 show-requires-2 c κs =
     let x = c .before .before .before .before .before .before .before in
-    let s = x .before .before .before .before .before .before .before .before .before .before in
+    let s = x .before .before .before .before .before .before .before .before .before .before .before in
     let fit = s .pre .0 in (
-      omega (arith, s .pre .5, x .show .kept .1 .1 .1 .0),
-      first-low fit (s .pre .2) (s .pre .3),
-      omega (arith, s .pre .4, x .show .kept .1 .1 .1 .1 .0, arrives x),
+      omega (arith, s .pre .6, x .show .kept .1 .1 .1 .1 .0),
+      first-low fit (s .pre .3) (s .pre .4),
+      omega (arith, s .pre .5, x .show .kept .1 .1 .1 .1 .1 .0, arrives x),
       fit .bounded .letters,
-      showable fit (honest fit (s .pre .1)),
+      showable fit (honest fit (s .pre .2)),
     )
 
 add-show : tie.Need-add-show
@@ -56,19 +55,21 @@ show-requires-3 : tie.Need-show-requires-3
 show-requires-3 c κs =
     let y = c .before .before .before .before .before .before .before .before in
     let x = y .before .before .before .before .before .before .before .before in
-    let s = x .before .before .before .before .before .before .before .before .before .before in
+    let s = x .before .before .before .before .before .before .before .before .before .before .before in
     let fit = s .pre .0 in (
-      omega (arith, s .pre .5, x .show .kept .1 .1 .1 .0, y .show2 .kept .1 .1 .1 .0),
-      first-low fit (s .pre .2) (s .pre .3),
-      omega (arith, s .pre .4, x .show .kept .1 .1 .1 .1 .0, y .show2 .kept .1 .1 .1 .1 .0, arrives x, loops y),
+      omega (arith, s .pre .6, x .show .kept .1 .1 .1 .1 .0, y .show2 .kept .1 .1 .1 .1 .0),
+      first-low fit (s .pre .3) (s .pre .4),
+      omega (arith, s .pre .5, x .show .kept .1 .1 .1 .1 .1 .0, y .show2 .kept .1 .1 .1 .1 .1 .0, arrives x, loops y),
       fit .bounded .letters,
       showable fit (honest-none fit),
     )
 
 judgement-requires : tie.Need-judgement-requires
 judgement-requires c κs =
-    let fit = c .before .before .before .before .before .before .before .before .before .before .before .before .before .before .before .before .before .before .before .before .before .before .before .before .before .before .before .before .before .before .before .pre .0 in
-    (fit .bounded .few, c .before .before .before .before .before .before .before .before .before .before .before .before .before .before .before .before .before .before .before .before .before .show .ensures .top, c .before .before .before .before .before .before .before .before .before .before .before .before .before .show2 .ensures .top, c .before .before .before .before .show3 .ensures .top)
+    let z = c .before .before .before .before in
+    let y = z .before .before .before .before .before .before .before .before .before in
+    let x = y .before .before .before .before .before .before .before .before in
+    (x .before .before .before .before .before .before .before .before .before .before .before .pre .0 .bounded .few, x .show .ensures .top, y .show2 .ensures .top, z .show3 .ensures .top)
 
 same-length : tie.Need-same-length
 same-length c = search needs
@@ -78,14 +79,16 @@ same-length-2 c = search needs
 
 returns : tie.Need-returns
 returns c =
-    let z = c .before .before .before .before .before .show3 in
-    let y = c .before .before .before .before .before .before .before .before .before .before .before .before .before .before .show2 in
-    let x = c .before .before .before .before .before .before .before .before .before .before .before .before .before .before .before .before .before .before .before .before .before .before .show in
-    let at = pivot (c .before .before .before .before .before .before .before .before .before .before .before .before .before .before .before .before .before .before .before .before .before .before .before .before .before .before .before) in
-    let s = c .before .before .before .before .before .before .before .before .before .before .before .before .before .before .before .before .before .before .before .before .before .before .before .before .before .before .before .before .before .before .before .before in
+    let z = c .before .before .before .before .before in
+    let y = z .before .before .before .before .before .before .before .before .before in
+    let x = y .before .before .before .before .before .before .before .before in
+    let o = x .before .before .before .before .before in
+    let s = o .before .before .before .before .before .before in
     let fit = s .pre .0 in
+    let at = pivot o in
+    let db = s .pre .1 in
     judges (c .judgement .ensures)
-    (runaway-answer fit at (s .pre .1) (way-in-shown fit at (x .ensures)) (loops-shown fit at (s .pre .1) (y .ensures)) (way-out-shown fit at (z .ensures)))
+    (runaway-answer fit at db (s .pre .2) (way-in-shown fit at (x .show .ensures)) (loops-shown fit at db (s .pre .2) (y .show2 .ensures)) (way-out-shown fit at (z .show3 .ensures)))
 
 pub runaway-spec : {M : Type 1} → statement M
 runaway-spec =

@@ -1,11 +1,16 @@
 -- The tables say what the graph says, so the first pivot found is the graph's. Assumes nothing.
-use mathlib.Core.Path.{refl, _∙_}
+use mathlib.Core.Path.{_≡_, refl, _∙_}
 use native.Mathlib.Omega.{arith}
 use Rattle.graph.specs.Built.{graphOfBuilt}
+use Rattle.verdict.specs.Verdict.{firstPivot}
+use Rattle.shares.specs.Tables.{Shares}
 use Rattle.vetting.proofs.Answering.{rows-of, shares-of}
 use borrow.Author.Needs.{needs}
 use Rattle.vetting.proofs.vet.Statement.{statement}
 use Rattle.vetting.proofs.vet.Tie as tie
+
+double-rows-requires : tie.Need-double-rows-requires
+double-rows-requires c κs = search needs
 
 share-rows-requires : tie.Need-share-rows-requires
 share-rows-requires c κs = search needs
@@ -13,16 +18,25 @@ share-rows-requires c κs = search needs
 first-pivot-requires : tie.Need-first-pivot-requires
 first-pivot-requires c κs = search needs
 
+shared : (c : tie.After-share-rows) → Shares (graphOfBuilt (c .before .before .before .before .before .before .before .before .args .b) (c .before .before .before .before .before .before .before .before .args .more .now)) (c .share-rows .last .1 .0)
+shared c = shares-of (c .before .before .before .before .before .before .before .before .pre .0) (c .share-rows .last .1 .0) (c .share-rows .ensures .0)
+
+first : (c : tie.After-first-pivot) → firstPivot (graphOfBuilt (c .before .before .before .before .before .before .before .before .before .before .before .before .before .args .b) (c .before .before .before .before .before .before .before .before .before .before .before .before .before .args .more .now)) ≡ c .first-pivot .result
+first c =
+    let r = c .before .before .before .before .before in
+    let d = r .before .before in
+    let s = d .before .before .before .before .before .before in
+    let fit = s .pre .0 in
+    c .first-pivot .ensures (graphOfBuilt (s .args .b) (s .args .more .now)) (rows-of fit) (d .double-rows .ensures) (shared r) refl
+
 single-or-steady-requires : tie.Need-single-or-steady-requires
 single-or-steady-requires c κs =
-    let b = c .before .before .before in
-    let q = b .before .before .before .first-pivot in
-    let rows = b .before .before .before .before .before .before .before .share-rows in
-    let s = b .before .before .before .before .before .before .before .before .before .before .before .before .before in
-    let fit = s .pre .0 in
-    let sh = shares-of fit (rows .last .1 .0) (rows .ensures .0) in
-    let first = q .ensures (graphOfBuilt (s .args .b)) (rows-of fit) sh refl in
-    (fit, sh, first ∙ b .if1 .taken, s .pre .1, omega (arith, s .pre .2, q .kept .1 .1 .0))
+    let b = c .before .before .before .before in
+    let q = b .before .before .before in
+    let r = q .before .before .before .before .before in
+    let d = r .before .before in
+    let s = r .before .before .before .before .before .before .before .before in
+    (s .pre .0, d .double-rows .ensures, shared r, first q ∙ b .if1 .taken, s .pre .2, omega (arith, s .pre .3, q .first-pivot .kept .1 .1 .1 .0))
 
 same-length : tie.Need-same-length
 same-length c = search needs
@@ -35,14 +49,12 @@ returns c = search needs
 
 runaway-requires : tie.Need-runaway-requires
 runaway-requires c κs =
-    let b = c .before .before .before in
-    let q = b .before .before .before .first-pivot in
-    let rows = b .before .before .before .before .before .before .before .share-rows in
-    let s = b .before .before .before .before .before .before .before .before .before .before .before .before .before in
-    let fit = s .pre .0 in
-    let sh = shares-of fit (rows .last .1 .0) (rows .ensures .0) in
-    let first = q .ensures (graphOfBuilt (s .args .b)) (rows-of fit) sh refl in
-    (fit, sh, first, omega (arith, b .if1 .left), s .pre .1, omega (arith, s .pre .2, q .kept .1 .1 .0))
+    let b = c .before .before .before .before in
+    let q = b .before .before .before in
+    let r = q .before .before .before .before .before in
+    let d = r .before .before in
+    let s = r .before .before .before .before .before .before .before .before in
+    (s .pre .0, d .double-rows .ensures, shared r, first q, omega (arith, b .if1 .left), s .pre .2, omega (arith, s .pre .3, q .first-pivot .kept .1 .1 .1 .0))
 
 same-length-3 : tie.Need-same-length-3
 same-length-3 c = search needs
@@ -57,6 +69,7 @@ pub vet-spec : {M : Type 1} → statement M
 vet-spec =
     tie.close
     (tie.spec
+    double-rows-requires
     share-rows-requires
     first-pivot-requires
     single-or-steady-requires
