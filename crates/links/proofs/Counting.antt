@@ -18,7 +18,7 @@ use Rattle.basics.proofs.Lists.{zeros}
 use Rattle.basics.proofs.Folds.{less-here, less-other}
 use Rattle.bits.specs.Bits.{hasBit, Least}
 use Rattle.bits.proofs.Laws.{has-none}
-use Rattle.links.specs.Rows.{kept, Marks, entry, number, oneMore, after, further, Counts, Gains, Further, LinksMore}
+use Rattle.links.specs.Rows.{kept, Marks, Linked, entry, number, oneMore, after, further, Counts, Gains, Further, LinksMore}
 use Rattle.links.proofs.Linking.{adds-none, adds-both, adds-linked}
 
 -- ---- one more, and k more
@@ -90,13 +90,32 @@ gains-linked rows more rows′ more′ lasts firsts r f g w p q = record {
       ∙ ap₂ (λ (u v : Bool). after (if u && v then 1 else 0) (number rows more a b)) (p a ∙ ap (λ (t : Bool). t && f a) k) (q b ∙ ap (λ (t : Bool). t && g b) l);
 }
 
+-- the same where none of them is linked yet, so that no number changes
+pub gains-new : (rows more rows′ : List ℕ) (lasts firsts : ℕ) (f g : ℕ → Bool) → Linked rows lasts firsts rows′ → Marks lasts f → Marks firsts g
+    → ((a b : ℕ) → kept a ≡ true → kept b ≡ true → (f a && g b) ≡ true → number rows more a b ≡ 0) → Gains rows more (λ a b. if f a && g b then 1 else 0) rows′ more
+gains-new rows more rows′ lasts firsts f g w p q new =
+    let adds = adds-linked rows rows′ lasts firsts f g w p q in
+    record {
+      adds = λ a b. adds a b ∙ ap (λ (u : Bool). hasBit (getD rows a 0) b || ((kept a && kept b) && u)) (sym (some-if (f a && g b)));
+      counts = λ a b k l.
+          ap (λ (u : Bool). (if u then 1 else 0) + getD more (entry a b) 0) (adds a b ∙ ap₂ (λ (u v : Bool). hasBit (getD rows a 0) b || ((u && v) && (f a && g b))) k l)
+          ∙ first-link (hasBit (getD rows a 0) b) (f a && g b) (getD more (entry a b) 0) (new a b k l);
+    }
+  where
+    first-link : (r t : Bool) (n : ℕ) → (t ≡ true → (if r then 1 else 0) + n ≡ 0) → (if r || t then 1 else 0) + n ≡ after (if t then 1 else 0) ((if r then 1 else 0) + n)
+    first-link true true n h = absurd (let z = h refl in omega arith)
+    first-link false true n h = let z : 0 + n ≡ 0 = h refl in omega (arith, more-yes (0 + n) (omega arith))
+    first-link true false n h = refl
+    first-link false false n h = refl
+
 -- ---- no links before
 
+pub none-linked : (j k : ℕ) (more : List ℕ) → more ≡ replicate k 0 → (a b : ℕ) → number (replicate j 0) more a b ≡ 0
+none-linked j k more e a b =
+    ap₂ (λ (t : Bool) (n : ℕ). (if t then 1 else 0) + n) (ap (λ (n : ℕ). hasBit n b) (zeros j a) ∙ has-none b) (ap (λ (m : List ℕ). getD m (entry a b) 0) e ∙ zeros k (entry a b))
+
 pub counts-alone : (j k : ℕ) (rows more more′ : List ℕ) (g : ℕ → ℕ → ℕ) → more ≡ replicate k 0 → Counts (replicate j 0) more g rows more′ → (a b : ℕ) → kept a ≡ true → kept b ≡ true → number rows more′ a b ≡ after (g a b) 0
-counts-alone j k rows more more′ g e c a b x y =
-    c a b x y
-    ∙ ap (after (g a b))
-    (ap₂ (λ (t : Bool) (n : ℕ). (if t then 1 else 0) + n) (ap (λ (n : ℕ). hasBit n b) (zeros j a) ∙ has-none b) (ap (λ (m : List ℕ). getD m (entry a b) 0) e ∙ zeros k (entry a b)))
+counts-alone j k rows more more′ g e c a b x y = c a b x y ∙ ap (after (g a b)) (none-linked j k more e a b)
 
 -- ---- one link more beyond the first, to one member of a set at a time
 

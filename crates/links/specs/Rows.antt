@@ -3,7 +3,7 @@
 use mathlib.Core.Path.{_≡_}
 use mathlib.Core.Bool.{Bool, true, false, _&&_, _||_}
 use mathlib.Core.List.{List}
-use Prim.Native.Nat.{ℕ, zero, suc, _+_, _*_}
+use Prim.Native.Nat.{ℕ, zero, suc, _+_, _*_, _<_}
 use lib.Dec.{eqb, ltb}
 use lib.ListN.{length, getD}
 use Rattle.basics.specs.Choice.{if_then_else_}
@@ -55,6 +55,10 @@ further n = if ltb n 255 then n + 1 else n
 -- of each kept pair, as many links more as k says
 abbrev pub Counts : List ℕ → List ℕ → (ℕ → ℕ → ℕ) → List ℕ → List ℕ → Type 0
 Counts rows more k rows′ more′ = (a b : ℕ) → kept a ≡ true → kept b ≡ true → number rows′ more′ a b ≡ after (k a b) (number rows more a b)
+
+-- no link leads from a position past n
+abbrev pub Clear : ℕ → List ℕ → List ℕ → Type 0
+Clear n rows more = (a b : ℕ) → kept a ≡ true → kept b ≡ true → n < a → number rows more a b ≡ 0
 
 -- as many links more as k says: in the rows the pairs that have one, and the numbers
 pub record Gains (rows more : List ℕ) (k : ℕ → ℕ → ℕ) (rows′ more′ : List ℕ) : Type 0 where

@@ -6,10 +6,23 @@ ghost use Prim.Native.Nat.{ℕ, _<_, _^_};
 ghost use lib.Dec.{eqb};
 ghost use lib.ListN.{length};
 ghost use Rattle.bits.specs.Bits.{hasBit};
-ghost use Rattle.links.specs.Rows.{further, Marks, Further, LinksMore};
+ghost use Rattle.links.specs.Rows.{further, Marks, Linked, Further, LinksMore};
 
-// Each of firsts may follow each of lasts that has a row, by one link more. Says whether one of them might follow before.
-pub fn link(rows: &mut [u64; 61], more: &mut [u8], lasts: u64, firsts: u64) -> bool
+// Each of firsts may follow each of lasts that has a row.
+pub fn link(rows: &mut [u64; 61], lasts: u64, firsts: u64)
+    requires { ⌜ length (now rows) ≡ 61 ⌝ }
+    ensures { λ _. ⌜ Linked (now (rows .entry)) lasts firsts (now (rows .exit)) × (length (now (rows .exit)) ≡ 61) ⌝ }
+{
+    let mut left = bits::intersection(bits::below(61), lasts);
+    while left != 0 {
+        let a = bits::lowest(left);
+        rows[a] = bits::union(rows[a], firsts);
+        left = bits::rest(left);
+    }
+}
+
+// The same by one link more, where they may follow already. Says whether one of them did.
+pub fn link_again(rows: &mut [u64; 61], more: &mut [u8], lasts: u64, firsts: u64) -> bool
     requires { ⌜ (length (now rows) ≡ 61) × (length (now more) ≡ 3721) ⌝ }
     ensures { λ r. ⌜ LinksMore (now (rows .entry)) (now (more .entry)) lasts firsts (now (rows .exit)) (now (more .exit)) r ⌝ }
 {

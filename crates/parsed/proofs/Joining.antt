@@ -2,26 +2,26 @@
 use mathlib.Core.Path.{_≡_, refl, sym, ap, ap₂, _∙_, subst}
 use mathlib.Core.Bool.{Bool, true, false, _&&_, _||_, not, and-assoc, or-false, or-assoc}
 use mathlib.Core.List.{List, [], _∷_, _++_, append-nil, append-assoc}
-use Prim.Native.Nat.{ℕ, _+_}
+use Prim.Native.Nat.{ℕ, zero, suc, _+_, _≤_}
 use native.Mathlib.Nat.{add-zero}
 use native.Mathlib.Numerals.{add-one}
 use native.Mathlib.Omega.{arith}
 use lib.Dec.{eqb}
 use lib.ListN.{length, length-append}
 use Rattle.basics.specs.Choice.{if_then_else_}
-use Rattle.basics.proofs.Tests.{or-parts}
+use Rattle.basics.proofs.Tests.{and-parts, or-parts}
 use Rattle.bits.specs.Bits.{hasBit}
 use Rattle.alphabet.specs.Alphabet.{someLetter}
 use Rattle.pattern.specs.Parts.{Atom, holds, Repeat, skips, loops, Part, letter, again}
 use Rattle.pattern.specs.Positions.{isFirst, isLast, links}
 use Rattle.pattern.specs.Refusals.{someReversed, anyReversed, anyEmpty}
 use Rattle.parsed.specs.declared.Parsed.{Parsed}
-use Rattle.links.specs.Rows.{kept, Marks, Gains, LinksMore}
+use Rattle.links.specs.Rows.{kept, Marks, number, after, Clear, Gains, LinksMore}
 use Rattle.parsed.specs.Tables.{Stored}
 use Rattle.parsed.specs.Parsed.{Shape, shapeOf, Memory, memory, Has, nothingRead, Either, Joins}
-use Rattle.parsed.proofs.Shapes.{joinedShape, eitherShape, noShape}
+use Rattle.parsed.proofs.Shapes.{joinedShape, eitherShape, noShape, Owns}
 use Rattle.links.proofs.Linking.{marks-if, marks-none}
-use Rattle.links.proofs.Counting.{gains-none, gains-both, gains-linked}
+use Rattle.links.proofs.Counting.{gains-none, gains-both, gains-linked, gains-new}
 
 -- ---- nothing, and one atom
 
@@ -33,7 +33,7 @@ has-nothing at n m empty = record {
   lasts = marks-none;
   reversed = refl;
   hollow = refl;
-  links = gains-none (m .rows) (m .more);
+  links = λ c. gains-none (m .rows) (m .more);
   single = λ e. refl;
   stores = λ al l st. subst (λ (x : List Atom). Stored x (m .sets) (m .credits)) (sym (append-nil al)) st;
 }
@@ -48,7 +48,7 @@ has-letter n rows more sets credits sets′ credits′ x at own reversed hollow 
   lasts = mine;
   reversed = turned ∙ sym (or-false (someReversed (x .items)));
   hollow = empty ∙ sym (or-false (not (someLetter (holds x))));
-  links = gains-none rows more;
+  links = λ c. gains-none rows more;
   single = λ e. refl;
   stores = stored;
 }
@@ -73,8 +73,8 @@ module _ (n : ℕ) (m : Memory) (rows more sets credits : List ℕ) (p : Part) (
     lasts = ha .lasts;
     reversed = ha .reversed;
     hollow = ha .hollow;
-    links =
-        gains-both (m .rows) (m .more) rows more rows′ more′ (λ x y. links n p x y) (λ x y. if loops k && (isLast n p x && isFirst n p y) then 1 else 0) (ha .links)
+    links = λ c.
+        gains-both (m .rows) (m .more) rows more rows′ more′ (λ x y. links n p x y) (λ x y. if loops k && (isLast n p x && isFirst n p y) then 1 else 0) (ha .links c)
         (subst (λ (g : ℕ → ℕ → ℕ). Gains rows more g rows′ more′) (λ i x y. round x y i)
         (gains-linked rows more rows′ more′ back (a .firsts) second (λ x. loop && isLast n p x) (λ y. isFirst n p y) l back-marks (ha .firsts)));
     single = λ d. let parts = or-parts (a .doubled) second d in l .single (parts .1) ∙ ha .single (parts .0);
@@ -97,9 +97,18 @@ any-both any one e f [] bl = sym (ap (λ (b : Bool). b || any bl) e)
 any-both any one e f (a ∷ al) bl =
     f a (al ++ bl) ∙ ap (λ (b : Bool). one a || b) (any-both any one e f al bl) ∙ sym (ap (λ (b : Bool). b || any bl) (f a al) ∙ or-assoc (one a) (any al) (any bl))
 
-module _ (n : ℕ) (m m₁ m₂ : Memory) (p q : Shape) (a b : Parsed) (ha : Has n m m₁ p a) (hb : Has (a .n) m₁ m₂ q b) where
-  after : Has (n + length (p .atoms)) m₁ m₂ q b
-  after = subst (λ (k : ℕ). Has k m₁ m₂ q b) (ha .count) hb
+none : (k : ℕ) → (1 ≤ k → ⊥) → k ≡ 0
+none zero h = refl
+none (suc k) h = absurd (h (omega arith))
+
+-- past its own positions, a shape adds no link
+clear-on : (n : ℕ) (x : Shape) (rows more rows′ more′ : List ℕ) → Owns x → Clear n rows more → Gains rows more (x .links n) rows′ more′ → Clear (n + length (x .atoms)) rows′ more′
+clear-on n x rows more rows′ more′ o c h a b k l past =
+    h .counts a b k l ∙ ap₂ after (none (x .links n a b) (λ e. let w = o .links n a b e .0 in omega arith)) (c a b k l (omega arith))
+
+module _ (n : ℕ) (m m₁ m₂ : Memory) (p q : Shape) (op : Owns p) (oq : Owns q) (a b : Parsed) (ha : Has n m m₁ p a) (hb : Has (a .n) m₁ m₂ q b) where
+  shifted : Has (n + length (p .atoms)) m₁ m₂ q b
+  shifted = subst (λ (k : ℕ). Has k m₁ m₂ q b) (ha .count) hb
 
   counted : b .n ≡ n + length (p .atoms ++ q .atoms)
   counted = omega (arith, ha .count, hb .count, length-append (p .atoms) (q .atoms))
@@ -115,6 +124,19 @@ module _ (n : ℕ) (m m₁ m₂ : Memory) (p q : Shape) (a b : Parsed) (ha : Has
       subst (λ (x : List Atom). Stored x (m₂ .sets) (m₂ .credits)) (append-assoc al (p .atoms) (q .atoms))
       (hb .stores (al ++ p .atoms) (omega (arith, l, ha .count, length-append al (p .atoms))) (ha .stores al l st))
 
+  second-clear : Clear n (m .rows) (m .more) → Clear (n + length (p .atoms)) (m₁ .rows) (m₁ .more)
+  second-clear c = clear-on n p (m .rows) (m .more) (m₁ .rows) (m₁ .more) op c (ha .links c)
+
+  -- from a last of the first to a first of the second no link leads yet
+  not-yet : Clear n (m .rows) (m .more) → (x y : ℕ) → kept x ≡ true → kept y ≡ true → (p .last n x && q .first (n + length (p .atoms)) y) ≡ true → number (m₂ .rows) (m₂ .more) x y ≡ 0
+  not-yet c x y k l e =
+      let w = and-parts (p .last n x) (q .first (n + length (p .atoms)) y) e in
+      let i = op .lasts n x (w .0) in
+      let j = oq .firsts (n + length (p .atoms)) y (w .1) in
+      shifted .links (second-clear c) .counts x y k l
+      ∙ ap₂ after (none (q .links (n + length (p .atoms)) x y) (λ h. let o = oq .links (n + length (p .atoms)) x y h .0 in omega arith))
+      (ha .links c .counts x y k l ∙ ap₂ after (none (p .links n x y) (λ h. let o = op .links n x y h .1 in omega arith)) (c x y k l (i .0)))
+
   single-both : (a .doubled ≡ false) × (b .doubled ≡ false) → m₂ .more ≡ m .more
   single-both d = hb .single (d .1) ∙ ha .single (d .0)
 
@@ -122,33 +144,31 @@ module _ (n : ℕ) (m m₁ m₂ : Memory) (p q : Shape) (a b : Parsed) (ha : Has
   has-either r e = record {
     count = e .follows .count ∙ counted;
     empty = e .empty ∙ ap₂ _||_ (ha .empty) (hb .empty);
-    firsts = marks-if (r .firsts) (a .firsts) (b .firsts) (p .first n) (q .first (n + length (p .atoms))) true (e .firsts) (ha .firsts) (after .firsts);
-    lasts = marks-if (r .lasts) (a .lasts) (b .lasts) (p .last n) (q .last (n + length (p .atoms))) true (e .lasts) (ha .lasts) (after .lasts);
+    firsts = marks-if (r .firsts) (a .firsts) (b .firsts) (p .first n) (q .first (n + length (p .atoms))) true (e .firsts) (ha .firsts) (shifted .firsts);
+    lasts = marks-if (r .lasts) (a .lasts) (b .lasts) (p .last n) (q .last (n + length (p .atoms))) true (e .lasts) (ha .lasts) (shifted .lasts);
     reversed = e .follows .reversed ∙ turned;
     hollow = e .follows .hollow ∙ hollowed;
-    links = gains-both (m .rows) (m .more) (m₁ .rows) (m₁ .more) (m₂ .rows) (m₂ .more) (p .links n) (q .links (n + length (p .atoms))) (ha .links) (after .links);
+    links = λ c. gains-both (m .rows) (m .more) (m₁ .rows) (m₁ .more) (m₂ .rows) (m₂ .more) (p .links n) (q .links (n + length (p .atoms))) (ha .links c) (shifted .links (second-clear c));
     single = λ d. single-both (or-parts (a .doubled) (b .doubled) (sym (e .doubled) ∙ d));
     stores = stored;
   }
 
-  pub has-joined : (rows more : List ℕ) (r : Parsed) → Joins (m₂ .rows) (m₂ .more) rows more a b r → Has n m (memory rows more (m₂ .sets) (m₂ .credits)) (joinedShape p q) r
-  has-joined rows more r e = record {
+  pub has-joined : (rows : List ℕ) (r : Parsed) → Joins (m₂ .rows) rows a b r → Has n m (memory rows (m₂ .more) (m₂ .sets) (m₂ .credits)) (joinedShape p q) r
+  has-joined rows r e = record {
     count = e .follows .count ∙ counted;
     empty = e .empty ∙ ap₂ _&&_ (ha .empty) (hb .empty);
     firsts =
         subst (λ (t : Bool). Marks (r .firsts) (λ j. p .first n j || (t && q .first (n + length (p .atoms)) j))) (ha .empty)
-        (marks-if (r .firsts) (a .firsts) (b .firsts) (p .first n) (q .first (n + length (p .atoms))) (a .empty) (e .firsts) (ha .firsts) (after .firsts));
+        (marks-if (r .firsts) (a .firsts) (b .firsts) (p .first n) (q .first (n + length (p .atoms))) (a .empty) (e .firsts) (ha .firsts) (shifted .firsts));
     lasts =
         subst (λ (t : Bool). Marks (r .lasts) (λ j. q .last (n + length (p .atoms)) j || (t && p .last n j))) (hb .empty)
-        (marks-if (r .lasts) (b .lasts) (a .lasts) (q .last (n + length (p .atoms))) (p .last n) (b .empty) (e .lasts) (after .lasts) (ha .lasts));
+        (marks-if (r .lasts) (b .lasts) (a .lasts) (q .last (n + length (p .atoms))) (p .last n) (b .empty) (e .lasts) (shifted .lasts) (ha .lasts));
     reversed = e .follows .reversed ∙ turned;
     hollow = e .follows .hollow ∙ hollowed;
-    links =
-        gains-both (m .rows) (m .more) (m₁ .rows) (m₁ .more) rows more (p .links n) (λ x y. q .links (n + length (p .atoms)) x y + (if p .last n x && q .first (n + length (p .atoms)) y then 1 else 0)) (ha .links)
-        (gains-both (m₁ .rows) (m₁ .more) (m₂ .rows) (m₂ .more) rows more (q .links (n + length (p .atoms))) (λ x y. if p .last n x && q .first (n + length (p .atoms)) y then 1 else 0) (after .links)
-        (gains-linked (m₂ .rows) (m₂ .more) rows more (a .lasts) (b .firsts) (e .second) (p .last n) (q .first (n + length (p .atoms))) (e .links) (ha .lasts) (after .firsts)));
-    single = λ d.
-        let parts = or-parts (a .doubled || b .doubled) (e .second) (sym (e .doubled) ∙ d) in
-        e .links .single (parts .1) ∙ single-both (or-parts (a .doubled) (b .doubled) (parts .0));
+    links = λ c.
+        gains-both (m .rows) (m .more) (m₁ .rows) (m₁ .more) rows (m₂ .more) (p .links n) (λ x y. q .links (n + length (p .atoms)) x y + (if p .last n x && q .first (n + length (p .atoms)) y then 1 else 0)) (ha .links c)
+        (gains-both (m₁ .rows) (m₁ .more) (m₂ .rows) (m₂ .more) rows (m₂ .more) (q .links (n + length (p .atoms))) (λ x y. if p .last n x && q .first (n + length (p .atoms)) y then 1 else 0) (shifted .links (second-clear c))
+        (gains-new (m₂ .rows) (m₂ .more) rows (a .lasts) (b .firsts) (p .last n) (q .first (n + length (p .atoms))) (e .links) (ha .lasts) (shifted .firsts) (not-yet c)));
+    single = λ d. single-both (or-parts (a .doubled) (b .doubled) (sym (e .doubled) ∙ d));
     stores = stored;
   }

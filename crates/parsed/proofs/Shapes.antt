@@ -10,9 +10,10 @@ use native.Mathlib.Nat.{zero-add, add-zero, add-assoc}
 use native.Mathlib.Omega.{arith}
 use lib.ListN.{length, length-append}
 use Rattle.basics.specs.Choice.{if_then_else_}
-use Rattle.basics.proofs.Tests.{and-parts, or-cases}
+use Rattle.basics.proofs.Tests.{and-parts, or-cases, by-test, if-no, le-or-lt}
 use Rattle.pattern.specs.Parts.{Part}
 use Rattle.pattern.proofs.Own.{first-own, last-own}
+use Rattle.pattern.proofs.Doubled.{linked-own}
 use Rattle.parsed.specs.Parsed.{Shape, shapeOf}
 
 abbrev pub joinedShape : Shape → Shape → Shape
@@ -69,16 +70,17 @@ last-law false false b false a = refl
 
 -- ---- a shape's own positions
 
--- with n positions to its left, its firsts and lasts are among the next
+-- with n positions to its left, its firsts and lasts are among the next, and its links lead from those to those
 pub record Owns (x : Shape) : Type 0 where
   pub firsts : (n i : ℕ) → x .first n i ≡ true → (n < i) × (i ≤ n + length (x .atoms))
   pub lasts : (n i : ℕ) → x .last n i ≡ true → (n < i) × (i ≤ n + length (x .atoms))
+  pub links : (n i j : ℕ) → 1 ≤ x .links n i j → ((n < i) × (i ≤ n + length (x .atoms))) × ((n < j) × (j ≤ n + length (x .atoms)))
 
 pub owns-part : (p : Part) → Owns (shapeOf p)
-owns-part p = record { firsts = λ n i e. first-own p n i e; lasts = λ n i e. last-own p n i e }
+owns-part p = record { firsts = λ n i e. first-own p n i e; lasts = λ n i e. last-own p n i e; links = λ n i j l. linked-own p n i j l }
 
 pub owns-none : (e : Bool) → Owns (noShape e)
-owns-none e = record { firsts = λ n i h. absurd (false≢true h); lasts = λ n i h. absurd (false≢true h) }
+owns-none e = record { firsts = λ n i h. absurd (false≢true h); lasts = λ n i h. absurd (false≢true h); links = λ n i j l. absurd (omega arith) }
 
 module _ (p q : Shape) (op : Owns p) (oq : Owns q) where
   -- those of the one, or of the other
@@ -88,6 +90,11 @@ module _ (p q : Shape) (op : Owns p) (oq : Owns q) where
   in-second : (n i : ℕ) → (n + length (p .atoms) < i) × (i ≤ (n + length (p .atoms)) + length (q .atoms)) → (n < i) × (i ≤ n + length (p .atoms ++ q .atoms))
   in-second n i h = let l = length-append (p .atoms) (q .atoms) in omega arith
 
+  in-links : (n i j : ℕ) → 1 ≤ p .links n i j + q .links (n + length (p .atoms)) i j → ((n < i) × (i ≤ n + length (p .atoms ++ q .atoms))) × ((n < j) × (j ≤ n + length (p .atoms ++ q .atoms)))
+  in-links n i j l =
+      ⊎-elim (λ h. let w = oq .links (n + length (p .atoms)) i j (omega arith) in (in-second n i (w .0), in-second n j (w .1))) (λ h. let w = op .links n i j h in (in-first n i (w .0), in-first n j (w .1)))
+      (le-or-lt (p .links n i j) 0)
+
   pub owns-joined : Owns (joinedShape p q)
   owns-joined = record {
     firsts = λ n i e.
@@ -96,6 +103,11 @@ module _ (p q : Shape) (op : Owns p) (oq : Owns q) where
     lasts = λ n i e.
         ⊎-elim (λ h. in-second n i (oq .lasts (n + length (p .atoms)) i h)) (λ h. in-first n i (op .lasts n i (and-parts (q .empty) (p .last n i) h .1)))
         (or-cases (q .last (n + length (p .atoms)) i) (q .empty && p .last n i) e);
+    links = λ n i j l.
+        let over = p .last n i && q .first (n + length (p .atoms)) j in
+        by-test over
+        (λ t. let w = and-parts (p .last n i) (q .first (n + length (p .atoms)) j) t in (in-first n i (op .lasts n i (w .0)), in-second n j (oq .firsts (n + length (p .atoms)) j (w .1))))
+        (λ t. let z = if-no {A = ℕ} 1 0 over t in in-links n i j (omega arith));
   }
 
   pub owns-either : Owns (eitherShape p q)
@@ -104,6 +116,7 @@ module _ (p q : Shape) (op : Owns p) (oq : Owns q) where
         ⊎-elim (λ h. in-first n i (op .firsts n i h)) (λ h. in-second n i (oq .firsts (n + length (p .atoms)) i h)) (or-cases (p .first n i) (q .first (n + length (p .atoms)) i) e);
     lasts = λ n i e.
         ⊎-elim (λ h. in-first n i (op .lasts n i h)) (λ h. in-second n i (oq .lasts (n + length (p .atoms)) i h)) (or-cases (p .last n i) (q .last (n + length (p .atoms)) i) e);
+    links = in-links;
   }
 
 -- links from the first to the second (l and x), and to the third from the second (k and y) or, where that can be empty (f), from the

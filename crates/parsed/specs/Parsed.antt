@@ -13,7 +13,7 @@ use Rattle.pattern.specs.Parts.{Atom, Repeat, skips, loops, Part, again}
 use Rattle.pattern.specs.Grammar.{Read, read, broken, peek}
 use Rattle.pattern.specs.Positions.{atoms, canBeEmpty, isFirst, isLast, links}
 use Rattle.pattern.specs.Refusals.{anyReversed, anyEmpty}
-use Rattle.links.specs.Rows.{Marks, Gains, LinksMore}
+use Rattle.links.specs.Rows.{Marks, Linked, Clear, Gains}
 use Rattle.parsed.specs.declared.Parsed.{Parsed}
 use Rattle.parsed.specs.Tables.{Stored}
 
@@ -41,7 +41,8 @@ pub record Memory : Type 0 where
 abbrev pub memory : List ℕ → List ℕ → List ℕ → List ℕ → Memory
 memory rows more sets credits = record { rows = rows; more = more; sets = sets; credits = credits }
 
--- the result r has the shape x, with n positions to its left; m is the memory before it, and m′ that with its own added
+-- the result r has the shape x, with n positions to its left; m is the memory before it, and m′ that with its own added: of links,
+-- where none led from a position past n before
 pub record Has (n : ℕ) (m m′ : Memory) (x : Shape) (r : Parsed) : Type 0 where
   pub count : r .n ≡ n + length (x .atoms)
   pub empty : r .empty ≡ x .empty
@@ -49,7 +50,7 @@ pub record Has (n : ℕ) (m m′ : Memory) (x : Shape) (r : Parsed) : Type 0 whe
   pub lasts : Marks (r .lasts) (x .last n)
   pub reversed : r .reversed ≡ anyReversed (x .atoms)
   pub hollow : r .hollow ≡ anyEmpty (x .atoms)
-  pub links : Gains (m .rows) (m .more) (x .links n) (m′ .rows) (m′ .more)
+  pub links : Clear n (m .rows) (m .more) → Gains (m .rows) (m .more) (x .links n) (m′ .rows) (m′ .more)
   pub single : r .doubled ≡ false → m′ .more ≡ m .more
   pub stores : (al : List Atom) → length al ≡ n → Stored al (m .sets) (m .credits) → Stored (al ++ x .atoms) (m′ .sets) (m′ .credits)
 
@@ -113,12 +114,11 @@ pub record Either (a b r : Parsed) : Type 0 where
   pub lasts : (j : ℕ) → hasBit (r .lasts) j ≡ (hasBit (a .lasts) j || hasBit (b .lasts) j)
   pub doubled : r .doubled ≡ (a .doubled || b .doubled)
 
--- r is a, then b: the firsts of b may follow the lasts of a, by one link more; `second` says whether one of them might before
-pub record Joins (rows more rows′ more′ : List ℕ) (a b r : Parsed) : Type 0 where
+-- r is a, then b: the firsts of b may follow the lasts of a
+pub record Joins (rows rows′ : List ℕ) (a b r : Parsed) : Type 0 where
   pub follows : Follows a b r
   pub empty : r .empty ≡ (a .empty && b .empty)
   pub firsts : (j : ℕ) → hasBit (r .firsts) j ≡ (hasBit (a .firsts) j || (a .empty && hasBit (b .firsts) j))
   pub lasts : (j : ℕ) → hasBit (r .lasts) j ≡ (hasBit (b .lasts) j || (b .empty && hasBit (a .lasts) j))
-  pub second : Bool
-  pub links : LinksMore rows more (a .lasts) (b .firsts) rows′ more′ second
-  pub doubled : r .doubled ≡ ((a .doubled || b .doubled) || second)
+  pub links : Linked rows (a .lasts) (b .firsts) rows′
+  pub doubled : r .doubled ≡ (a .doubled || b .doubled)

@@ -58,11 +58,11 @@ pub fn either(a: Parsed, b: Parsed) -> Parsed
 }
 
 // A piece more.
-pub fn join(rows: &mut [u64; 61], more: &mut [u8], a: Parsed, b: Parsed) -> Parsed
-    requires { ⌜ (length (now rows) ≡ 61) × (length (now more) ≡ 3721) ⌝ }
-    ensures { λ r. ⌜ Joins (now (rows .entry)) (now (more .entry)) (now (rows .exit)) (now (more .exit)) a b r ⌝ }
+pub fn join(rows: &mut [u64; 61], a: Parsed, b: Parsed) -> Parsed
+    requires { ⌜ length (now rows) ≡ 61 ⌝ }
+    ensures { λ r. ⌜ Joins (now (rows .entry)) (now (rows .exit)) a b r × (length (now (rows .exit)) ≡ 61) ⌝ }
 {
-    let second = links::link(rows, more, a.lasts, b.firsts);
+    links::link(rows, a.lasts, b.firsts);
     Parsed {
         good: b.good,
         at: b.at,
@@ -72,7 +72,7 @@ pub fn join(rows: &mut [u64; 61], more: &mut [u8], a: Parsed, b: Parsed) -> Pars
         lasts: links::union_if(b.empty, b.lasts, a.lasts),
         reversed: a.reversed | b.reversed,
         hollow: a.hollow | b.hollow,
-        doubled: (a.doubled | b.doubled) | second,
+        doubled: a.doubled | b.doubled,
     }
 }
 
@@ -167,7 +167,7 @@ fn again(p: Parsed, rows: &mut [u64; 61], more: &mut [u8], skips: bool, loops: b
 {
     let mut out = p;
     let back = links::union_if(loops, 0, p.lasts);
-    let second = links::link(rows, more, back, p.firsts);
+    let second = links::link_again(rows, more, back, p.firsts);
     out.at = p.at + 1;
     out.empty = skips | p.empty;
     out.doubled = p.doubled | second;

@@ -43,7 +43,7 @@ pub record Fold : Type 1 where
   pub assoc : (x y z : Shape) → Owns x → Owns y → Owns z → op (op x y) z ≡ op x (op y z)
   pub Combined : Memory → Memory → Parsed → Parsed → Parsed → Type 0
   pub follows : (m m′ : Memory) (a b r : Parsed) → Combined m m′ a b r → Follows a b r
-  pub has : (n : ℕ) (m m₁ m₂ m₃ : Memory) (x y : Shape) (a b r : Parsed) → Has n m m₁ x a → Has (a .n) m₁ m₂ y b → Combined m₂ m₃ a b r → Has n m m₃ (op x y) r
+  pub has : (n : ℕ) (m m₁ m₂ m₃ : Memory) (x y : Shape) (a b r : Parsed) → Owns x → Owns y → Has n m m₁ x a → Has (a .n) m₁ m₂ y b → Combined m₂ m₃ a b r → Has n m m₃ (op x y) r
 
 -- pieces to a branch
 abbrev pub pieces : Fold
@@ -61,9 +61,9 @@ pieces = record {
   unit = joined-none;
   owns = owns-joined;
   assoc = joined-assoc;
-  Combined = λ m m′ a b r. Joins (m .rows) (m .more) (m′ .rows) (m′ .more) a b r × (m′ ≡ memory (m′ .rows) (m′ .more) (m .sets) (m .credits));
+  Combined = λ m m′ a b r. Joins (m .rows) (m′ .rows) a b r × (m′ ≡ memory (m′ .rows) (m .more) (m .sets) (m .credits));
   follows = λ m m′ a b r e. e .0 .follows;
-  has = λ n m m₁ m₂ m₃ x y a b r ha hb e. subst (λ (k : Memory). Has n m k (joinedShape x y) r) (sym (e .1)) (has-joined n m m₁ m₂ x y a b ha hb (m₃ .rows) (m₃ .more) r (e .0));
+  has = λ n m m₁ m₂ m₃ x y a b r ox oy ha hb e. subst (λ (k : Memory). Has n m k (joinedShape x y) r) (sym (e .1)) (has-joined n m m₁ m₂ x y ox oy a b ha hb (m₃ .rows) r (e .0));
 }
 
 -- branches to a pattern
@@ -84,7 +84,7 @@ branches = record {
   assoc = λ x y z ox oy oz. either-assoc x y z;
   Combined = λ m m′ a b r. Either a b r × (m′ ≡ m);
   follows = λ m m′ a b r e. e .0 .follows;
-  has = λ n m m₁ m₂ m₃ x y a b r ha hb e. subst (λ (k : Memory). Has n m k (eitherShape x y) r) (sym (e .1)) (has-either n m m₁ m₂ x y a b ha hb r (e .0));
+  has = λ n m m₁ m₂ m₃ x y a b r ox oy ha hb e. subst (λ (k : Memory). Has n m k (eitherShape x y) r) (sym (e .1)) (has-either n m m₁ m₂ x y ox oy a b ha hb r (e .0));
 }
 
 module _ (F : Fold) (s : List ℕ) (at n : ℕ) (m : Memory) where
@@ -128,8 +128,8 @@ module _ (F : Fold) (s : List ℕ) (at n : ℕ) (m : Memory) where
     follows : Follows a b r
     follows = F .follows now′ now″ a b r combined
 
-    has : (x y : Shape) → Has n m now x a → Has (a .n) now now′ y b → Has n m now″ (F .op x y) r
-    has x y hx hy = F .has n m now now′ now″ x y a b r hx hy combined
+    has : (x y : Shape) → Owns x → Owns y → Has n m now x a → Has (a .n) now now′ y b → Has n m now″ (F .op x y) r
+    has x y ox oy hx hy = F .has n m now now′ now″ x y a b r ox oy hx hy combined
 
     abbrev here : ℕ → Read
     here f = F .first f (drop (a .at) s)
@@ -141,9 +141,9 @@ module _ (F : Fold) (s : List ℕ) (at n : ℕ) (m : Memory) where
         ∙ and-when (b .good) (F .test (here f .rest)) (F .test (drop (b .at) s)) (λ g. ap (F .test) (v .gives g .goes))
         ∙ sym (ap (λ (g : Bool). g && F .test (drop (r .at) s)) (follows .good) ∙ ap (λ (t : ℕ). b .good && F .test (drop t s)) (follows .place))
 
-    last-one : (r .good && F .test (drop (r .at) s)) ≡ false → (d : ℕ) (x : Shape) → 3 * (length s - a .at) + suc (F .rank) < d → Has n m now x a → Rest d x (a .at) now″ r
-    last-one e zero x h hx = absurd (omega arith)
-    last-one e (suc f) x h hx =
+    last-one : (r .good && F .test (drop (r .at) s)) ≡ false → (d : ℕ) (x : Shape) → Owns x → 3 * (length s - a .at) + suc (F .rank) < d → Has n m now x a → Rest d x (a .at) now″ r
+    last-one e zero x ox h hx = absurd (omega arith)
+    last-one e (suc f) x ox h hx =
         let v : Stands s (a .at) (a .n) now now′ (here f) b = parses f (omega arith) in
         subst (λ (R : Read). StandsFor s at n m now″ (R .good) (F .op x (shapeOf (R .part))) (R .rest) r)
         (sym (F .step f (drop (a .at) s) ∙ if-no (both (F .combine) (here f) (F .self f (drop (F .skip) (here f .rest)))) (here f) (here f .good && F .test (here f .rest)) (tested f v ∙ e)))
@@ -154,12 +154,12 @@ module _ (F : Fold) (s : List ℕ) (at n : ℕ) (m : Memory) where
               let on = so .on in
               let place = follows .place in
               let count = follows .count in
-              record { on = omega arith; within = omega arith; few = omega arith; goes = y .goes ∙ ap (λ (t : ℕ). drop t s) (sym place); has = has x (shapeOf (here f .part)) hx (y .has) };
+              record { on = omega arith; within = omega arith; few = omega arith; goes = y .goes ∙ ap (λ (t : ℕ). drop t s) (sym place); has = has x (shapeOf (here f .part)) ox (owns-part (here f .part)) hx (y .has) };
         }
 
     -- it was the last
     pub ends : (r .good && F .test (drop (r .at) s)) ≡ false → Parses (F .self) (suc (F .rank)) s at n m now″ r
-    ends e f h = let w = so .partly f h in w .goes now″ r (last-one e (w .depth) (w .shape) (w .enough) (w .has))
+    ends e f h = let w = so .partly f h in w .goes now″ r (last-one e (w .depth) (w .shape) (w .owns) (w .enough) (w .has))
 
     -- or another comes, from t on
     module _ (t : ℕ) (there : t ≡ r .at + (F .skip)) (e : (r .good && F .test (drop (r .at) s)) ≡ true) where
@@ -190,7 +190,7 @@ module _ (F : Fold) (s : List ℕ) (at n : ℕ) (m : Memory) where
           let v : Stands s (a .at) (a .n) now now′ A b = parses d (omega arith) in
           let y = v .gives good in
           let place = follows .place in
-          let all = has x (shapeOf (A .part)) hx (y .has) in
+          let all = has x (shapeOf (A .part)) ox (owns-part (A .part)) hx (y .has) in
           let is : (F .self) (suc d) (drop (a .at) s) ≡ both (F .combine) A (F .self d (drop t s)) = F .step d (drop (a .at) s) ∙ if-yes (both (F .combine) A (F .self d (drop (F .skip) (A .rest)))) A (A .good && F .test (A .rest)) (tested d v ∙ e)
           ∙ ap (λ (l : List ℕ). both (F .combine) A (F .self d l)) (ap (drop (F .skip)) (y .goes) ∙ drop-drop (F .skip) (b .at) s ∙ ap (λ (k : ℕ). drop k s) (ap (λ (k : ℕ). k + (F .skip)) (sym place) ∙ sym there)) in
           record {

@@ -16,7 +16,8 @@ use Rattle.basics.proofs.Tests.{if-yes, if-no, and-parts}
 use Rattle.pattern.specs.Grammar.{Read, read, broken, peek, readLetter, repeated, patternFrom, pieceFrom}
 use Rattle.places.proofs.Places.{next-within}
 use Rattle.links.proofs.Linking.{links-alone}
-use Rattle.links.proofs.Counting.{counts-alone}
+use Rattle.links.specs.Rows.{Clear}
+use Rattle.links.proofs.Counting.{none-linked, counts-alone}
 use Rattle.parsed.specs.declared.Parsed.{Parsed}
 use Rattle.parsed.specs.Tables.{Stored}
 use Rattle.parsed.specs.Parsed.{Shape, Memory, memory, Has, Stands, closedRead, Changes}
@@ -86,8 +87,11 @@ has-whole k rows more more′ sets credits sets′ credits′ x r h st none = re
   lasts = h .lasts;
   reversed = h .reversed;
   hollow = h .hollow;
-  links = links-alone k rows (λ a b. ltb 0 (x .links 0 a b)) (h .links .adds);
-  numbers = counts-alone k 3721 rows more more′ (x .links 0) none (h .links .counts);
+  links = links-alone k rows (λ a b. ltb 0 (x .links 0 a b)) (h .links clear .adds);
+  numbers = counts-alone k 3721 rows more more′ (x .links 0) none (h .links clear .counts);
   single = λ d. h .single d ∙ none;
   stored = h .stores [] refl st;
 }
+  where
+    clear : Clear 0 (replicate k 0) more
+    clear a b x y l = none-linked k 3721 more none a b

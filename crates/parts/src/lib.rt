@@ -82,7 +82,7 @@ fn branch(
         } else {
             parsed::lettered(s, t, so_far.n, &mut all, sets, credits, more)
         };
-        so_far = parsed::join(&mut all, more, so_far, next);
+        so_far = parsed::join(&mut all, so_far, next);
         if !goes_on(s, so_far.good, so_far.at) {
             return ParsedRows {
                 part: so_far,

@@ -136,33 +136,33 @@ branch-lettered-requires : (t : ℕ) → branch-lts.Need-lettered-requires (bran
 branch-lettered-requires t c κs = let loop = c .before .before .before .before .before .before .loop in (loop .inv .2 .few, loop .inv .1, loop .inv .0, loop .inv .3)
 
 branch-join-requires : (t : ℕ) → branch-lts.Need-join-requires (branch-env t) (branch-at t) branch.Post branch-Inv-loop branch-μ-loop
-branch-join-requires t c κs = (next-rows t (c .before .before), next-more t (c .before .before))
+branch-join-requires t c κs = next-rows t (c .before)
 
 branch-goes-on-requires : (t : ℕ) → branch-lts.Need-goes-on-requires (branch-env t) (branch-at t) branch.Post branch-Inv-loop branch-μ-loop
 branch-goes-on-requires t c κs = search needs
 
 branch-same-length : (t : ℕ) → branch-lts.Need-same-length (branch-env t) (branch-at t) branch.Post branch-Inv-loop branch-μ-loop
-branch-same-length t c = next-sized t (c .before .before .before .before .before .before .before) .sets-are ∙ sym (c .before .before .before .before .before .before .before .before .before .before .before .before .before .before .before .pre .1 .1 .sets-are)
+branch-same-length t c = next-sized t (c .before .before .before .before) .sets-are ∙ sym (c .before .before .before .before .before .before .before .before .before .before .before .before .pre .1 .1 .sets-are)
 
 branch-same-length-2 : (t : ℕ) → branch-lts.Need-same-length-2 (branch-env t) (branch-at t) branch.Post branch-Inv-loop branch-μ-loop
-branch-same-length-2 t c = next-sized t (c .before .before .before .before .before .before .before) .credits-are ∙ sym (c .before .before .before .before .before .before .before .before .before .before .before .before .before .before .before .pre .1 .1 .credits-are)
+branch-same-length-2 t c = next-sized t (c .before .before .before .before) .credits-are ∙ sym (c .before .before .before .before .before .before .before .before .before .before .before .before .pre .1 .1 .credits-are)
 
 branch-same-length-3 : (t : ℕ) → branch-lts.Need-same-length-3 (branch-env t) (branch-at t) branch.Post branch-Inv-loop branch-μ-loop
-branch-same-length-3 t c = c .before .before .before .before .join .ensures .links .more-are ∙ sym (c .before .before .before .before .before .before .before .before .before .before .before .before .before .before .before .pre .1 .2)
+branch-same-length-3 t c = next-more t (c .before .before .before .before) ∙ sym (c .before .before .before .before .before .before .before .before .before .before .before .before .pre .1 .2)
 
 branch-returns : (t : ℕ) → branch-lts.Need-returns (branch-env t) (branch-at t) branch.Post branch-Inv-loop branch-μ-loop
 branch-returns t c =
-    ends pieces _ _ _ _ _ _ _ _ _ _ (c .before .before .before .before .before .before .before .before .before .loop .inv .2) (next-parses t (c .before .before .before .before .before .before .before)) (c .before .before .before .before .join .ensures, refl) (sym (c .before .goes-on .ensures) ∙ not-true (c .before .goes-on .result) (c .if2 .taken))
+    ends pieces _ _ _ _ _ _ _ _ _ _ (c .before .before .before .before .before .before .loop .inv .2) (next-parses t (c .before .before .before .before)) (c .before .before .join .ensures .0, refl) (sym (c .before .goes-on .ensures) ∙ not-true (c .before .goes-on .result) (c .if2 .taken))
 
 branch-loop-less : (t : ℕ) → branch-lts.Need-loop-less (branch-env t) (branch-at t) branch.Post branch-Inv-loop branch-μ-loop
 branch-loop-less t c =
-    let goes = goes-on pieces _ _ _ _ _ _ _ _ _ _ (c .before .before .before .before .before .before .before .before .before .loop .inv .2) (next-parses t (c .before .before .before .before .before .before .before)) (c .before .before .before .before .join .ensures, refl) (c .before .before .before .before .join .result .at) (sym (add-zero (c .before .before .before .before .join .result .at))) (sym (c .before .goes-on .ensures) ∙ not-false (c .before .goes-on .result) (c .if2 .left)) in
+    let goes = goes-on pieces _ _ _ _ _ _ _ _ _ _ (c .before .before .before .before .before .before .loop .inv .2) (next-parses t (c .before .before .before .before)) (c .before .before .join .ensures .0, refl) (c .before .before .join .result .at) (sym (add-zero (c .before .before .join .result .at))) (sym (c .before .goes-on .ensures) ∙ not-false (c .before .goes-on .result) (c .if2 .left)) in
     omega (arith, goes .1, goes .2)
 
 branch-loop-again : (t : ℕ) → branch-lts.Need-loop-again (branch-env t) (branch-at t) branch.Post branch-Inv-loop branch-μ-loop
 branch-loop-again t c =
-    let goes = goes-on pieces _ _ _ _ _ _ _ _ _ _ (c .before .before .before .before .before .before .before .before .before .loop .inv .2) (next-parses t (c .before .before .before .before .before .before .before)) (c .before .before .before .before .join .ensures, refl) (c .before .before .before .before .join .result .at) (sym (add-zero (c .before .before .before .before .join .result .at))) (sym (c .before .goes-on .ensures) ∙ not-false (c .before .goes-on .result) (c .if2 .left)) in
-    (c .before .before .before .before .join .ensures .links .rows-are, next-sized t (c .before .before .before .before .before .before .before), goes .0, c .before .before .before .before .join .ensures .links .more-are)
+    let goes = goes-on pieces _ _ _ _ _ _ _ _ _ _ (c .before .before .before .before .before .before .loop .inv .2) (next-parses t (c .before .before .before .before)) (c .before .before .join .ensures .0, refl) (c .before .before .join .result .at) (sym (add-zero (c .before .before .join .result .at))) (sym (c .before .goes-on .ensures) ∙ not-false (c .before .goes-on .result) (c .if2 .left)) in
+    (c .before .before .join .ensures .1, next-sized t (c .before .before .before .before), goes .0, next-more t (c .before .before .before .before))
 
 abbrev pattern-Inv-loop : pattern-lts.InvT-loop
 pattern-Inv-loop s at n sets₀ credits₀ more₀ all₀ so-far₀ sets credits more all so-far = (length all ≡ 61) × Sized sets credits × Sofar branches s at n (memory all₀ more₀ sets₀ credits₀) (memory all more sets credits) so-far × (length more ≡ 3721)
