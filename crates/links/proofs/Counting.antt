@@ -18,8 +18,8 @@ use Rattle.basics.proofs.Lists.{zeros}
 use Rattle.basics.proofs.Folds.{less-here, less-other}
 use Rattle.bits.specs.Bits.{hasBit, Least}
 use Rattle.bits.proofs.Laws.{has-none}
-use Rattle.links.specs.Rows.{kept, Marks, Linked, entry, number, oneMore, after, further, Counts, Gains, Further, LinksMore}
-use Rattle.links.proofs.Linking.{adds-none, adds-both, adds-linked}
+use Rattle.links.specs.Rows.{kept, Marks, Adds, Linked, entry, number, oneMore, after, further, Counts, NoneCounted, Room, Further}
+use Rattle.links.proofs.Linking.{adds-both, adds-linked}
 
 -- ---- one more, and k more
 
@@ -50,7 +50,7 @@ more-no n h = if-no (suc n) n (ltb n 256) (le-ltb n 256 h)
 
 -- ---- links more, one set of them after the other
 
-counts-both : (r₀ m₀ r₁ m₁ r₂ m₂ : List ℕ) (g h : ℕ → ℕ → ℕ) → Counts r₀ m₀ g r₁ m₁ → Counts r₁ m₁ h r₂ m₂ → Counts r₀ m₀ (λ a b. g a b + h a b) r₂ m₂
+pub counts-both : (r₀ m₀ r₁ m₁ r₂ m₂ : List ℕ) (g h : ℕ → ℕ → ℕ) → Counts r₀ m₀ g r₁ m₁ → Counts r₁ m₁ h r₂ m₂ → Counts r₀ m₀ (λ a b. g a b + h a b) r₂ m₂
 counts-both r₀ m₀ r₁ m₁ r₂ m₂ g h p q a b k l = q a b k l ∙ ap (after (h a b)) (p a b k l) ∙ sym (after-plus (g a b) (h a b) (number r₀ m₀ a b))
 
 -- is there one of the sum, and one on a condition
@@ -67,55 +67,42 @@ some-if : (t : Bool) → ltb 0 (if t then 1 else 0) ≡ t
 some-if true = refl
 some-if false = refl
 
-pub gains-none : (rows more : List ℕ) → Gains rows more (λ a b. 0) rows more
-gains-none rows more = record { adds = adds-none rows; counts = λ a b k l. refl }
-
-pub gains-both : (r₀ m₀ r₁ m₁ r₂ m₂ : List ℕ) (g h : ℕ → ℕ → ℕ) → Gains r₀ m₀ g r₁ m₁ → Gains r₁ m₁ h r₂ m₂ → Gains r₀ m₀ (λ a b. g a b + h a b) r₂ m₂
-gains-both r₀ m₀ r₁ m₁ r₂ m₂ g h p q = record {
-  adds = λ a b.
-      adds-both r₀ r₁ r₂ (λ x y. ltb 0 (g x y)) (λ x y. ltb 0 (h x y)) (p .adds) (q .adds) a b
-      ∙ ap (λ (u : Bool). hasBit (getD r₀ a 0) b || ((kept a && kept b) && u)) (sym (some-both (g a b) (h a b)));
-  counts = counts-both r₀ m₀ r₁ m₁ r₂ m₂ g h (p .counts) (q .counts);
-}
+-- in the rows, the pairs that have one
+pub adds-more : (r₀ r₁ r₂ : List ℕ) (g h : ℕ → ℕ → ℕ) → Adds r₀ (λ a b. ltb 0 (g a b)) r₁ → Adds r₁ (λ a b. ltb 0 (h a b)) r₂ → Adds r₀ (λ a b. ltb 0 (g a b + h a b)) r₂
+adds-more r₀ r₁ r₂ g h p q a b =
+    adds-both r₀ r₁ r₂ (λ x y. ltb 0 (g x y)) (λ x y. ltb 0 (h x y)) p q a b
+    ∙ ap (λ (u : Bool). hasBit (getD r₀ a 0) b || ((kept a && kept b) && u)) (sym (some-both (g a b) (h a b)))
 
 -- one from each that passes f to each that passes g
-pub gains-linked : (rows more rows′ more′ : List ℕ) (lasts firsts : ℕ) (r : Bool) (f g : ℕ → Bool) → LinksMore rows more lasts firsts rows′ more′ r → Marks lasts f → Marks firsts g
-    → Gains rows more (λ a b. if f a && g b then 1 else 0) rows′ more′
-gains-linked rows more rows′ more′ lasts firsts r f g w p q = record {
-  adds = λ a b.
-      adds-linked rows rows′ lasts firsts f g (w .linked) p q a b
-      ∙ ap (λ (u : Bool). hasBit (getD rows a 0) b || ((kept a && kept b) && u)) (sym (some-if (f a && g b)));
-  counts = λ a b k l.
-      w .counts a b k l
-      ∙ ap₂ (λ (u v : Bool). after (if u && v then 1 else 0) (number rows more a b)) (p a ∙ ap (λ (t : Bool). t && f a) k) (q b ∙ ap (λ (t : Bool). t && g b) l);
-}
+module _ (rows rows′ : List ℕ) (lasts firsts : ℕ) (f g : ℕ → Bool) (w : Linked rows lasts firsts rows′) (p : Marks lasts f) (q : Marks firsts g) where
+  pub adds-one : Adds rows (λ a b. ltb 0 (if f a && g b then 1 else 0)) rows′
+  adds-one a b = adds-linked rows rows′ lasts firsts f g w p q a b ∙ ap (λ (u : Bool). hasBit (getD rows a 0) b || ((kept a && kept b) && u)) (sym (some-if (f a && g b)))
 
--- the same where none of them is linked yet, so that no number changes
-pub gains-new : (rows more rows′ : List ℕ) (lasts firsts : ℕ) (f g : ℕ → Bool) → Linked rows lasts firsts rows′ → Marks lasts f → Marks firsts g
-    → ((a b : ℕ) → kept a ≡ true → kept b ≡ true → (f a && g b) ≡ true → number rows more a b ≡ 0) → Gains rows more (λ a b. if f a && g b then 1 else 0) rows′ more
-gains-new rows more rows′ lasts firsts f g w p q new =
-    let adds = adds-linked rows rows′ lasts firsts f g w p q in
-    record {
-      adds = λ a b. adds a b ∙ ap (λ (u : Bool). hasBit (getD rows a 0) b || ((kept a && kept b) && u)) (sym (some-if (f a && g b)));
-      counts = λ a b k l.
-          ap (λ (u : Bool). (if u then 1 else 0) + getD more (entry a b) 0) (adds a b ∙ ap₂ (λ (u v : Bool). hasBit (getD rows a 0) b || ((u && v) && (f a && g b))) k l)
-          ∙ first-link (hasBit (getD rows a 0) b) (f a && g b) (getD more (entry a b) 0) (new a b k l);
-    }
-  where
-    first-link : (r t : Bool) (n : ℕ) → (t ≡ true → (if r then 1 else 0) + n ≡ 0) → (if r || t then 1 else 0) + n ≡ after (if t then 1 else 0) ((if r then 1 else 0) + n)
-    first-link true true n h = absurd (let z = h refl in omega arith)
-    first-link false true n h = let z : 0 + n ≡ 0 = h refl in omega (arith, more-yes (0 + n) (omega arith))
-    first-link true false n h = refl
-    first-link false false n h = refl
+  -- where none of them is linked yet, no number changes
+  pub counts-new : (more : List ℕ) → ((a b : ℕ) → kept a ≡ true → kept b ≡ true → (f a && g b) ≡ true → number rows more a b ≡ 0) → Counts rows more (λ a b. if f a && g b then 1 else 0) rows′ more
+  counts-new more new a b k l =
+      ap (λ (u : Bool). (if u then 1 else 0) + getD more (entry a b) 0) (adds-linked rows rows′ lasts firsts f g w p q a b ∙ ap₂ (λ (u v : Bool). hasBit (getD rows a 0) b || ((u && v) && (f a && g b))) k l)
+      ∙ first-link (hasBit (getD rows a 0) b) (f a && g b) (getD more (entry a b) 0) (new a b k l)
+    where
+      first-link : (r t : Bool) (n : ℕ) → (t ≡ true → (if r then 1 else 0) + n ≡ 0) → (if r || t then 1 else 0) + n ≡ after (if t then 1 else 0) ((if r then 1 else 0) + n)
+      first-link true true n h = absurd (let z = h refl in omega arith)
+      first-link false true n h = let z : 0 + n ≡ 0 = h refl in omega (arith, more-yes (0 + n) (omega arith))
+      first-link true false n h = refl
+      first-link false false n h = refl
+
+pub counts-one : (rows more rows′ more′ : List ℕ) (lasts firsts : ℕ) (f g : ℕ → Bool) → Counts rows more (λ a b. if hasBit lasts a && hasBit firsts b then 1 else 0) rows′ more′ → Marks lasts f → Marks firsts g
+    → Counts rows more (λ a b. if f a && g b then 1 else 0) rows′ more′
+counts-one rows more rows′ more′ lasts firsts f g w p q a b k l =
+    w a b k l
+    ∙ ap₂ (λ (u v : Bool). after (if u && v then 1 else 0) (number rows more a b)) (p a ∙ ap (λ (t : Bool). t && f a) k) (q b ∙ ap (λ (t : Bool). t && g b) l)
 
 -- ---- no links before
 
-pub none-linked : (j k : ℕ) (more : List ℕ) → more ≡ replicate k 0 → (a b : ℕ) → number (replicate j 0) more a b ≡ 0
-none-linked j k more e a b =
-    ap₂ (λ (t : Bool) (n : ℕ). (if t then 1 else 0) + n) (ap (λ (n : ℕ). hasBit n b) (zeros j a) ∙ has-none b) (ap (λ (m : List ℕ). getD m (entry a b) 0) e ∙ zeros k (entry a b))
+pub none-linked : (j : ℕ) (more : List ℕ) → NoneCounted more → (a b : ℕ) → number (replicate j 0) more a b ≡ 0
+none-linked j more e a b = ap₂ (λ (t : Bool) (n : ℕ). (if t then 1 else 0) + n) (ap (λ (n : ℕ). hasBit n b) (zeros j a) ∙ has-none b) (e (entry a b))
 
-pub counts-alone : (j k : ℕ) (rows more more′ : List ℕ) (g : ℕ → ℕ → ℕ) → more ≡ replicate k 0 → Counts (replicate j 0) more g rows more′ → (a b : ℕ) → kept a ≡ true → kept b ≡ true → number rows more′ a b ≡ after (g a b) 0
-counts-alone j k rows more more′ g e c a b x y = c a b x y ∙ ap (after (g a b)) (none-linked j k more e a b)
+pub counts-alone : (j : ℕ) (rows more more′ : List ℕ) (g : ℕ → ℕ → ℕ) → NoneCounted more → Counts (replicate j 0) more g rows more′ → (a b : ℕ) → kept a ≡ true → kept b ≡ true → number rows more′ a b ≡ after (g a b) 0
+counts-alone j rows more more′ g e c a b x y = c a b x y ∙ ap (after (g a b)) (none-linked j more e a b)
 
 -- ---- one link more beyond the first, to one member of a set at a time
 
@@ -153,9 +140,9 @@ further-end more a left z x y =
     none false w e = refl
 
 -- entries that are bytes stay so
-pub further-small : (more more′ : List ℕ) (a set : ℕ) → Further more a set more′ → ((x y : ℕ) → kept y ≡ true → getD more (entry x y) 0 < 256) → (x y : ℕ) → kept y ≡ true → getD more′ (entry x y) 0 < 256
-further-small more more′ a set w small x y k =
-    subst (λ (n : ℕ). n < 256) (sym (w .counts x y k))
+pub further-small : (more more′ : List ℕ) (a set : ℕ) → Room more → Further more a set more′ → ((x y : ℕ) → kept y ≡ true → getD more (entry x y) 0 < 256) → (x y : ℕ) → kept y ≡ true → getD more′ (entry x y) 0 < 256
+further-small more more′ a set room w small x y k =
+    subst (λ (n : ℕ). n < 256) (sym (w .counts room x y k))
     (if-either (λ (n : ℕ). n < 256) (further (getD more (entry x y) 0)) (getD more (entry x y) 0) (eqb a x && hasBit set y) (λ e. further-fits (getD more (entry x y) 0) (small x y k)) (λ e. small x y k))
 
 -- ---- one link more from one of the lasts at a time
@@ -174,14 +161,14 @@ one-link false false n h = refl
 
 pub count-turn : (rows more more′ : List ℕ) (left firsts t row old others : ℕ) → t < length rows → Least left t → Less (hasBit left) t (hasBit others)
     → ((j : ℕ) → hasBit row j ≡ (hasBit (getD rows t 0) j || hasBit firsts j)) → ((j : ℕ) → kept j ≡ true → hasBit old j ≡ (hasBit (getD rows t 0) j && hasBit firsts j))
-    → Further more t old more′ → ((x y : ℕ) → kept y ≡ true → getD more (entry x y) 0 < 256)
+    → Room more → Further more t old more′ → ((x y : ℕ) → kept y ≡ true → getD more (entry x y) 0 < 256)
     → (a b : ℕ) → kept b ≡ true → toCount (set rows t row) more′ others firsts a b ≡ toCount rows more left firsts a b
-count-turn rows more more′ left firsts t row old others h l e j o w small a b k =
+count-turn rows more more′ left firsts t row old others h l e j o room w small a b k =
     by-equal a t (λ z. subst (λ (x : ℕ). toCount (set rows t row) more′ others firsts x b ≡ toCount rows more left firsts x b) (sym z) here)
     (λ d.
     ap₂ (λ (u : Bool) (n : ℕ). after (if u && hasBit firsts b then 1 else 0) n) (less-other (hasBit left) (hasBit others) t e a (λ z. d (sym z)))
     (ap₂ (λ (x : ℕ) (n : ℕ). (if hasBit x b then 1 else 0) + n) (getD-set-other rows t a row 0 d)
-    (w .counts a b k ∙ ap (λ (u : Bool). if u && hasBit old b then further (getD more (entry a b) 0) else getD more (entry a b) 0) (ne-eqb t a (λ z. d (sym z))))))
+    (w .counts room a b k ∙ ap (λ (u : Bool). if u && hasBit old b then further (getD more (entry a b) 0) else getD more (entry a b) 0) (ne-eqb t a (λ z. d (sym z))))))
   where
     r : Bool
     r = hasBit (getD rows t 0) b
@@ -193,7 +180,7 @@ count-turn rows more more′ left firsts t row old others h l e j o w small a b 
     here =
         ap₂ (λ (u : Bool) (n : ℕ). after (if u && f then 1 else 0) n) (less-here (hasBit left) (hasBit others) t e)
         (ap₂ (λ (u : Bool) (n : ℕ). (if u then 1 else 0) + n) (ap (λ (x : ℕ). hasBit x b) (getD-set-same rows t row 0 h) ∙ j b)
-        (w .counts t b k ∙ ap₂ (λ (u v : Bool). if u && v then further (getD more (entry t b) 0) else getD more (entry t b) 0) (eq-eqb t t refl) (o b k)))
+        (w .counts room t b k ∙ ap₂ (λ (u v : Bool). if u && v then further (getD more (entry t b) 0) else getD more (entry t b) 0) (eq-eqb t t refl) (o b k)))
         ∙ one-link r f (getD more (entry t b) 0) (small t b k)
         ∙ sym (ap (λ (u : Bool). after (if u && f then 1 else 0) (number rows more t b)) (l .here))
 

@@ -56,25 +56,29 @@ further n = if ltb n 255 then n + 1 else n
 abbrev pub Counts : List ℕ → List ℕ → (ℕ → ℕ → ℕ) → List ℕ → List ℕ → Type 0
 Counts rows more k rows′ more′ = (a b : ℕ) → kept a ≡ true → kept b ≡ true → number rows′ more′ a b ≡ after (k a b) (number rows more a b)
 
+-- no link is counted yet
+abbrev pub NoneCounted : List ℕ → Type 0
+NoneCounted more = (k : ℕ) → getD more k 0 ≡ 0
+
 -- no link leads from a position past n
 abbrev pub Clear : ℕ → List ℕ → List ℕ → Type 0
 Clear n rows more = (a b : ℕ) → kept a ≡ true → kept b ≡ true → n < a → number rows more a b ≡ 0
 
--- as many links more as k says: in the rows the pairs that have one, and the numbers
-pub record Gains (rows more : List ℕ) (k : ℕ → ℕ → ℕ) (rows′ more′ : List ℕ) : Type 0 where
-  pub adds : Adds rows (λ a b. ltb 0 (k a b)) rows′
-  pub counts : Counts rows more k rows′ more′
+-- the table has room for every pair
+abbrev pub Room : List ℕ → Type 0
+Room more = length more ≡ 3721
 
--- one more beyond the first from a to each of a set
+-- one more beyond the first from a to each of a set, if there is room
 pub record Further (more : List ℕ) (a set : ℕ) (more′ : List ℕ) : Type 0 where
-  pub counts : (x y : ℕ) → kept y ≡ true → getD more′ (entry x y) 0 ≡ (if eqb a x && hasBit set y then further (getD more (entry x y) 0) else getD more (entry x y) 0)
+  pub counts : Room more → (x y : ℕ) → kept y ≡ true → getD more′ (entry x y) 0 ≡ (if eqb a x && hasBit set y then further (getD more (entry x y) 0) else getD more (entry x y) 0)
   pub none : set ≡ 0 → more′ ≡ more
-  pub size : length more′ ≡ 3721
+  pub size : length more′ ≡ length more
 
 -- each of firsts may follow each of lasts that has a row, by one link more; where r is false none is a second one
 pub record LinksMore (rows more : List ℕ) (lasts firsts : ℕ) (rows′ more′ : List ℕ) (r : Bool) : Type 0 where
   pub linked : Linked rows lasts firsts rows′
-  pub counts : Counts rows more (λ a b. if hasBit lasts a && hasBit firsts b then 1 else 0) rows′ more′
-  pub single : r ≡ false → more′ ≡ more
+  pub counts : Room more → Counts rows more (λ a b. if hasBit lasts a && hasBit firsts b then 1 else 0) rows′ more′
+  pub none : r ≡ false → more′ ≡ more
+  pub first : r ≡ false → (a b : ℕ) → kept a ≡ true → kept b ≡ true → hasBit lasts a ≡ true → hasBit firsts b ≡ true → hasBit (getD rows a 0) b ≡ false
   pub rows-are : length rows′ ≡ 61
-  pub more-are : length more′ ≡ 3721
+  pub size : length more′ ≡ length more

@@ -93,19 +93,16 @@ fn partners(to: u64, shared: u64, seen: u64, a: usize, own: u64) -> u64
     others(
         bits::difference(bits::intersection(to, shared), seen),
         a,
-        bits::has(own, a),
+        own,
     )
 }
 
-// The members of a set but i, or all where `all` says so.
-fn others(set: u64, i: usize, all: bool) -> u64
+// The members of a set, i only where `own` has it too.
+fn others(set: u64, i: usize, own: u64) -> u64
     requires { ⌜ i < 64 ⌝ }
-    ensures { λ r. ⌜ ((j : ℕ) → hasBit r j ≡ (hasBit set j && (all || not (eqb i j)))) ⌝ }
+    ensures { λ r. ⌜ ((j : ℕ) → hasBit r j ≡ (hasBit set j && (hasBit own i || not (eqb i j)))) ⌝ }
 {
-    if all {
-        return set;
-    }
-    bits::difference(set, bits::only(i))
+    bits::difference(set, bits::difference(bits::only(i), own))
 }
 
 // The node of the parted pair of a and b.

@@ -1,18 +1,18 @@
 -- What a result stands for, through the functions that read an atom, close a bracket or repeat. The idea: a test of the code on the
 -- byte after a result is the grammar's test on the rest of what it read, so that both go the same way. Assumes nothing.
 use mathlib.Core.Path.{_≡_, refl, sym, ap, ap₂, _∙_, subst}
-use mathlib.Core.Logic.{_⊎_}
+use mathlib.Core.Logic.{_⊎_, ⊎-elim}
 use mathlib.Core.Bool.{Bool, true, false, _&&_, _||_, not, and-false, true≢false}
 use mathlib.Core.List.{List}
 use Prim.Native.Nat.{ℕ, _+_, _<_, _≤_}
 use Prim.Native.Char.{code}
 use native.Mathlib.Omega.{arith}
-use borrow.Author.Tests.{eq-eqb, ne-eqb, not-true, not-false}
+use borrow.Author.Tests.{eqb-true, eqb-false, eq-eqb, ne-eqb, not-true, not-false}
 use lib.Dec.{eqb}
 use lib.ListN.{length, drop}
 use lib.Seq.{drop-drop}
 use Rattle.basics.specs.Choice.{if_then_else_}
-use Rattle.basics.proofs.Tests.{by-test, and-when}
+use Rattle.basics.proofs.Tests.{by-test, or-parts, or-cases, and-when}
 use Rattle.bits.specs.Bits.{hasBit}
 use Rattle.pattern.specs.Parts.{Repeat, optional, star, plus, skips, loops, Part, again}
 use Rattle.pattern.specs.Grammar.{Read, read, broken, peek, repeated}
@@ -79,6 +79,12 @@ repeated-on R plus g e = ap₂ (repeatedBy R) g e
 repeated-none : (R : Read) (b : ℕ) → ((k : Repeat) → b ≡ byteOf k → ⊥) → repeatedBy R true b ≡ R
 repeated-none R b d = simp (ne-eqb b (code "?") (d optional), ne-eqb b (code "*") (d star), ne-eqb b (code "+") (d plus))
 
+-- the byte of a repeat is no 0
+pub repeat-byte : (b : ℕ) → (eqb b (code "?") || (eqb b (code "*") || eqb b (code "+"))) ≡ true → 0 < b
+repeat-byte b t =
+    ⊎-elim (λ e. omega (arith, eqb-true b (code "?") e)) (λ u. ⊎-elim (λ e. omega (arith, eqb-true b (code "*") e)) (λ e. omega (arith, eqb-true b (code "+") e)) (or-cases (eqb b (code "*")) (eqb b (code "+")) u))
+    (or-cases (eqb b (code "?")) (eqb b (code "*") || eqb b (code "+")) t)
+
 module _ (s : List ℕ) (at n : ℕ) (m : Memory) (rows more sets credits : List ℕ) (R : Read) (p : Parsed) (w : Stands s at n m (memory rows more sets credits) R p) where
   -- a test of what comes next
   test-same : (test : List ℕ → Bool) → (R .good && test (R .rest)) ≡ (p .good && test (drop (p .at) s))
@@ -115,7 +121,7 @@ module _ (s : List ℕ) (at n : ℕ) (m : Memory) (rows more sets credits : List
       same-byte : peek (R .rest) ≡ b
       same-byte = ap peek (w .gives good .goes) ∙ sym next-is
 
-      pub repeat-none : (b ≡ code "?" → ⊥) → (b ≡ code "*" → ⊥) → (b ≡ code "+" → ⊥) → Stands s at n m (memory rows more sets credits) (repeated R) p
+      repeat-none : (b ≡ code "?" → ⊥) → (b ≡ code "*" → ⊥) → (b ≡ code "+" → ⊥) → Stands s at n m (memory rows more sets credits) (repeated R) p
       repeat-none x y z = stands-as s at n m _ p (ap₂ (repeatedBy R) (sym (w .same) ∙ good) same-byte ∙ repeated-none R b none) w
         where
           none : (k : Repeat) → b ≡ byteOf k → ⊥
@@ -123,9 +129,33 @@ module _ (s : List ℕ) (at n : ℕ) (m : Memory) (rows more sets credits : List
           none star = y
           none plus = z
 
-      pub repeat-on : (k : Repeat) (rows′ more′ : List ℕ) (r : Parsed) → b ≡ byteOf k → 0 < b → Repeats (skips k) (loops k) rows more rows′ more′ p r → Stands s at n m (memory rows′ more′ sets credits) (repeated R) r
+      repeat-on : (k : Repeat) (rows′ more′ : List ℕ) (r : Parsed) → b ≡ byteOf k → 0 < b → Repeats (skips k) (loops k) rows more rows′ more′ p r → Stands s at n m (memory rows′ more′ sets credits) (repeated R) r
       repeat-on k rows′ more′ r e h repeats =
           stands-as s at n m _ r (repeated-on R k (sym (w .same) ∙ good) (same-byte ∙ e)) (repeats s at n m sets credits R k refl refl good (next-within s (p .at) (omega arith)) w)
+
+      -- by the three tests of that byte
+      abbrev skip : ℕ → Bool
+      skip x = eqb x (code "?") || eqb x (code "*")
+
+      abbrev loop : ℕ → Bool
+      loop x = eqb x (code "*") || eqb x (code "+")
+
+      pub repeat-any : (rows′ more′ : List ℕ) (r : Parsed) → (eqb b (code "?") || loop b) ≡ true → Repeats (skip b) (loop b) rows more rows′ more′ p r → Stands s at n m (memory rows′ more′ sets credits) (repeated R) r
+      repeat-any rows′ more′ r t h =
+          let by : (c : ℕ) → b ≡ c → Repeats (skip c) (loop c) rows more rows′ more′ p r = λ c e. subst (λ (x : ℕ). Repeats (skip x) (loop x) rows more rows′ more′ p r) e h in
+          ⊎-elim
+          (λ e. let is = eqb-true b (code "?") e in repeat-on optional rows′ more′ r is (omega arith) (by (code "?") is))
+          (λ u.
+          ⊎-elim
+          (λ e. let is = eqb-true b (code "*") e in repeat-on star rows′ more′ r is (omega arith) (by (code "*") is))
+          (λ e. let is = eqb-true b (code "+") e in repeat-on plus rows′ more′ r is (omega arith) (by (code "+") is)) (or-cases (eqb b (code "*")) (eqb b (code "+")) u))
+          (or-cases (eqb b (code "?")) (loop b) t)
+
+      pub repeat-not : (eqb b (code "?") || loop b) ≡ false → Stands s at n m (memory rows more sets credits) (repeated R) p
+      repeat-not t =
+          let x = or-parts (eqb b (code "?")) (loop b) t in
+          let y = or-parts (eqb b (code "*")) (eqb b (code "+")) (x .1) in
+          repeat-none (eqb-false b (code "?") (x .0)) (eqb-false b (code "*") (y .0)) (eqb-false b (code "+") (y .1))
 
     closed-is : (t : Bool) → eqb b (code ")") ≡ t → closedRead R ≡ (if p .good && t then read (R .part) (drop 1 (R .rest)) else broken)
     closed-is t e =

@@ -86,7 +86,7 @@ pub fn lettered(
     credits: &mut [u8],
     more: &mut [u8],
 ) -> Parsed
-    requires { ⌜ (n ≤ at) × Sized (now sets) (now credits) × (length (now rows) ≡ 61) × (length (now more) ≡ 3721) ⌝ }
+    requires { ⌜ (n ≤ at) × Sized (now sets) (now credits) × (length (now rows) ≡ 61) ⌝ }
     ensures { λ r. ⌜ Stands (now (s .entry)) at n (memory (now (rows .entry)) (now (more .entry)) (now (sets .entry)) (now (credits .entry))) (memory (now (rows .exit)) (now (more .exit)) (now (sets .exit)) (now (credits .exit))) (repeated (readLetter (drop at (now (s .entry))))) r
         × (length (now (rows .exit)) ≡ 61) ⌝ }
 {
@@ -110,23 +110,20 @@ pub fn closed(s: &[u8], p: Parsed) -> Parsed
 
 // What repeats an atom, if anything does.
 pub fn repeat(s: &[u8], p: Parsed, rows: &mut [u64; 61], more: &mut [u8]) -> Parsed
-    requires { ⌜ (length (now rows) ≡ 61) × (length (now more) ≡ 3721) ⌝ }
+    requires { ⌜ length (now rows) ≡ 61 ⌝ }
     ensures { λ r. ⌜ Changes repeated (now (s .entry)) (now (rows .entry)) (now (more .entry)) (now (rows .exit)) (now (more .exit)) p r × (length (now (rows .exit)) ≡ 61) ⌝ }
 {
     if !p.good {
         return p;
     }
     let b = places::byte_at(s, p.at);
-    if b == b'?' {
-        return again(p, rows, more, true, false);
+    let one = b == b'?';
+    let any = b == b'*';
+    let some = b == b'+';
+    if !(one | (any | some)) {
+        return p;
     }
-    if b == b'*' {
-        return again(p, rows, more, true, true);
-    }
-    if b == b'+' {
-        return again(p, rows, more, false, true);
-    }
-    p
+    again(p, rows, more, one | any, any | some)
 }
 
 // A lettered atom is a position, its only first and last. Its letters and its credit go to the tables.
@@ -162,7 +159,7 @@ fn letter(s: &[u8], at: usize, n: usize, sets: &mut [u64], credits: &mut [u8]) -
 
 // The part with its repeat, one byte further: whether it may be left out, and whether it may go round.
 fn again(p: Parsed, rows: &mut [u64; 61], more: &mut [u8], skips: bool, loops: bool) -> Parsed
-    requires { ⌜ (p .at < 18446744073709551615) × (length (now rows) ≡ 61) × (length (now more) ≡ 3721) ⌝ }
+    requires { ⌜ (p .at < 18446744073709551615) × (length (now rows) ≡ 61) ⌝ }
     ensures { λ r. ⌜ Repeats skips loops (now (rows .entry)) (now (more .entry)) (now (rows .exit)) (now (more .exit)) p r × (length (now (rows .exit)) ≡ 61) ⌝ }
 {
     let mut out = p;

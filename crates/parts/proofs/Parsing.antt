@@ -9,14 +9,14 @@ use native.Mathlib.Nat.{zero-add, lt-suc-self}
 use native.Mathlib.Omega.{arith}
 use borrow.Author.Tests.{eqb-true, eq-eqb, ne-eqb}
 use lib.Dec.{eqb, ltb}
-use lib.ListN.{length, drop, replicate}
+use lib.ListN.{length, getD, drop, replicate}
 use lib.Seq.{drop-drop}
 use Rattle.basics.specs.Choice.{if_then_else_}
 use Rattle.basics.proofs.Tests.{if-yes, if-no, and-parts}
 use Rattle.pattern.specs.Grammar.{Read, read, broken, peek, readLetter, repeated, patternFrom, pieceFrom}
 use Rattle.places.proofs.Places.{next-within}
 use Rattle.links.proofs.Linking.{links-alone}
-use Rattle.links.specs.Rows.{Clear}
+use Rattle.links.specs.Rows.{NoneCounted}
 use Rattle.links.proofs.Counting.{none-linked, counts-alone}
 use Rattle.parsed.specs.declared.Parsed.{Parsed}
 use Rattle.parsed.specs.Tables.{Stored}
@@ -79,7 +79,7 @@ bar-within s g n e = next-within s n (omega (arith, eqb-true (peek (drop n s)) (
 -- ---- the whole pattern: nothing is before it
 
 pub has-whole : (k : ℕ) (rows more more′ sets credits sets′ credits′ : List ℕ) (x : Shape) (r : Parsed) → Has 0 (memory (replicate k 0) more sets credits) (memory rows more′ sets′ credits′) x r
-    → Stored [] sets credits → more ≡ replicate 3721 0 → Whole x rows more′ sets′ credits′ r
+    → Stored [] sets credits → NoneCounted more → Whole x rows more′ sets′ credits′ r
 has-whole k rows more more′ sets credits sets′ credits′ x r h st none = record {
   count = h .count ∙ zero-add (length (x .atoms));
   empty = h .empty;
@@ -87,11 +87,9 @@ has-whole k rows more more′ sets credits sets′ credits′ x r h st none = re
   lasts = h .lasts;
   reversed = h .reversed;
   hollow = h .hollow;
-  links = links-alone k rows (λ a b. ltb 0 (x .links 0 a b)) (h .links clear .adds);
-  numbers = counts-alone k 3721 rows more more′ (x .links 0) none (h .links clear .counts);
-  single = λ d. h .single d ∙ none;
+  links = links-alone k rows (λ a b. ltb 0 (x .links 0 a b)) (h .adds);
+  numbers = λ room. counts-alone k rows more more′ (x .links 0) none (h .counts (sym (h .size) ∙ room) (λ a b x y l. none-linked k more none a b));
+  none = λ d i. ap (λ (l : List ℕ). getD l i 0) (h .none d) ∙ none i;
+  single = h .single;
   stored = h .stores [] refl st;
 }
-  where
-    clear : Clear 0 (replicate k 0) more
-    clear a b x y l = none-linked k 3721 more none a b

@@ -9,6 +9,5 @@ pub mod Texts
 pub mod Accepted
 pub mod Useful
 pub mod Doubled
-pub mod Depth
 pub mod Bounds
 pub mod Specimens

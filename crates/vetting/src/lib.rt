@@ -3,6 +3,7 @@
 use graph::Built;
 use search::Goal;
 ghost use mathlib.Core.Path.{_≡_};
+ghost use mathlib.Core.Bool.{true};
 ghost use Prim.Native.Nat.{_≤_, _<_};
 ghost use lib.ListN.{length};
 ghost use Rattle.graph.specs.Built.{graphOfBuilt};
@@ -25,7 +26,7 @@ pub struct Vetted {
 // The verdict of a pattern, with its evidence; `more` is the table of its links beyond the first. 4,096 bytes and 4,096 numbers are
 // enough, whatever they hold.
 pub fn vet(b: Built, more: &[u8], evidence: &mut [u8], scratch: &mut [u16]) -> Vetted
-    requires { ⌜ Vettable b (now more) × (length (now more) ≡ 3721) × (4096 ≤ length (now evidence)) × (4096 ≤ length (now scratch)) ⌝ }
+    requires { ⌜ Vettable b (now more) × (b .doubled ≡ true → length (now more) ≡ 3721) × (4096 ≤ length (now evidence)) × (4096 ≤ length (now scratch)) ⌝ }
     ensures { λ r. ⌜ Judged (graphOfBuilt b (now (more .entry))) (now (evidence .entry)) (now (evidence .exit)) r ⌝ }
 {
     let follow = b.follow;
@@ -42,7 +43,7 @@ pub fn vet(b: Built, more: &[u8], evidence: &mut [u8], scratch: &mut [u16]) -> V
 
 // Where two links or more lead, in rows. Most patterns have no such place, and then nothing is looked up.
 fn double_rows(b: Built, more: &[u8]) -> [u64; 61]
-    requires { ⌜ Vettable b (now more) × (length (now more) ≡ 3721) ⌝ }
+    requires { ⌜ Vettable b (now more) × (b .doubled ≡ true → length (now more) ≡ 3721) ⌝ }
     ensures { λ r. ⌜ Doubles (graphOfBuilt b (now (more .entry))) r ⌝ }
 {
     let follow = b.follow;

@@ -1,6 +1,6 @@
 -- The loop's invariant: what the entries are, with those left to come, is what they were to be at the start. The set of those left
 -- is the measure. Assumes nothing.
-use mathlib.Core.Path.{_≡_, refl, _∙_}
+use mathlib.Core.Path.{_≡_, refl, sym, _∙_}
 use mathlib.Core.Bool.{true}
 use Prim.Native.Nat.{ℕ, _<_, _≤_, _^_}
 use native.Mathlib.Nat.{le-refl}
@@ -25,24 +25,28 @@ abbrev μ-loop : tie.MeasureT-loop
 index : {m n t : ℕ} → n < 2 ^ 61 → m ≤ n → Least m t → t < 61
 index {m} {n} {t} h k l = member-below 61 m t (omega arith) (l .here)
 
+-- without room nothing is changed
+returns : tie.Need-returns Inv-loop μ-loop
+returns c = record { counts = λ room. absurd (c .if1 .taken room); none = λ z. refl; size = refl }
+
 loop-holds : tie.Need-loop-holds Inv-loop μ-loop
-loop-holds c = (c .before .pre .2, le-refl _, λ x y k. refl, λ z. refl)
+loop-holds c = (c .if1 .left, le-refl _, λ x y k. refl, λ z. refl)
 
 mul-k : tie.Need-mul-k Inv-loop μ-loop
-mul-k c = let low = c .before .before .before .pre .0 in omega arith
+mul-k c = let low = c .before .before .before .before .pre .0 in omega arith
 
 lowest-requires : tie.Need-lowest-requires Inv-loop μ-loop
 lowest-requires c κs = search needs
 
 add-k : tie.Need-add-k Inv-loop μ-loop
 add-k c =
-    let low = c .before .before .before .before .pre .0 in
+    let low = c .before .before .before .before .before .pre .0 in
     let under = c .lowest .ensures .0 in
     omega arith
 
 slice-read-one-more : tie.Need-slice-read-one-more Inv-loop μ-loop
 slice-read-one-more c =
-    let start = c .before .before .before .before .before in
+    let start = c .before .before .before .before .before .before in
     let at = c .before .before .before .loop in
     let low = start .pre .0 in
     let under = index (start .pre .1) (at .inv .1) (c .before .lowest .ensures .1) in
@@ -53,7 +57,7 @@ one-more-requires c κs = search needs
 
 slice-write-more : tie.Need-slice-write-more Inv-loop μ-loop
 slice-write-more c =
-    let start = c .before .before .before .before .before .before in
+    let start = c .before .before .before .before .before .before .before in
     let at = c .before .before .before .before .loop in
     let low = start .pre .0 in
     let under = index (start .pre .1) (at .inv .1) (c .before .before .lowest .ensures .1) in
@@ -67,7 +71,7 @@ loop-less c = c .rest .ensures .0
 
 loop-again : tie.Need-loop-again Inv-loop μ-loop
 loop-again c =
-    let start = c .before .before .before .before .before .before .before in
+    let start = c .before .before .before .before .before .before .before .before in
     let at = c .before .before .before .before .before .loop in
     let t = c .before .before .before .lowest in
     let under = index (start .pre .1) (at .inv .1) (t .ensures .1) in
@@ -83,13 +87,13 @@ loop-again c =
 same-length : tie.Need-same-length Inv-loop μ-loop
 same-length c = search needs
 
-returns : tie.Need-returns Inv-loop μ-loop
-returns c =
+returns-2 : tie.Need-returns-2 Inv-loop μ-loop
+returns-2 c =
     let at = c .before .loop in
     record {
-      counts = λ x y k. further-end (at .more) (c .before .before .before .args .a) (at .left) (c .loop-test .left) x y ∙ at .inv .2 x y k;
+      counts = λ room x y k. further-end (at .more) (c .before .before .before .before .args .a) (at .left) (c .loop-test .left) x y ∙ at .inv .2 x y k;
       none = at .inv .3;
-      size = at .inv .0;
+      size = at .inv .0 ∙ sym (c .before .before .if1 .left);
     }
 
 pub add-spec : {M : Type 1} → statement M
@@ -98,6 +102,7 @@ add-spec =
     (tie.spec
     Inv-loop
     μ-loop
+    returns
     loop-holds
     mul-k
     lowest-requires
@@ -109,4 +114,4 @@ add-spec =
     loop-less
     loop-again
     same-length
-    returns)
+    returns-2)

@@ -68,7 +68,7 @@ abbrev piece-below : ℕ → In 4 piece-kinds.ps
 piece-below t = and 4 piece-kinds.ps (falls 4 piece-kinds.ps _<_ μ-piece t) piece.Pre
 
 abbrev branch-Inv-loop : branch-lts.InvT-loop
-branch-Inv-loop s at n sets₀ credits₀ more₀ all₀ so-far₀ sets credits more all so-far = (length all ≡ 61) × Sized sets credits × Sofar pieces s at n (memory all₀ more₀ sets₀ credits₀) (memory all more sets credits) so-far × (length more ≡ 3721)
+branch-Inv-loop s at n sets₀ credits₀ more₀ all₀ so-far₀ sets credits more all so-far = (length all ≡ 61) × Sized sets credits × Sofar pieces s at n (memory all₀ more₀ sets₀ credits₀) (memory all more sets credits) so-far × (length more ≡ length more₀)
 
 abbrev branch-μ-loop : branch-lts.MeasureT-loop
 branch-μ-loop s at n sets₀ credits₀ more₀ all₀ so-far₀ sets credits more all so-far = length s - so-far .at
@@ -113,7 +113,7 @@ module _ (t : ℕ) (c : branch-lts.Joined1 (branch-env t) (branch-at t) branch.P
       (λ w. record { sets-are = ap length (w .12) ∙ w .5 .kept .1 .1 .1 .1 .0 ∙ loop-of .inv .1 .sets-are; credits-are = ap length (w .13) ∙ w .5 .kept .1 .1 .1 .1 .1 .0 ∙ loop-of .inv .1 .credits-are })
       (c .if1 .came)
 
-  next-more : length (c .if1 .more) ≡ 3721
+  next-more : length (c .if1 .more) ≡ length (c .before .before .before .before .before .before .before .before .args .more .now)
   next-more =
       ⊎-elim (λ w. ap length (w .15) ∙ w .4 .kept .1 .1 .1 .1 .1 .1 .0 ∙ loop-of .inv .3) (λ w. ap length (w .14) ∙ w .5 .kept .1 .1 .1 .1 .1 .1 .0 ∙ loop-of .inv .3) (c .if1 .came)
 
@@ -121,7 +121,7 @@ branch-nothing-requires : (t : ℕ) → branch-lts.Need-nothing-requires (branch
 branch-nothing-requires t c κs = search needs
 
 branch-loop-holds : (t : ℕ) → branch-lts.Need-loop-holds (branch-env t) (branch-at t) branch.Post branch-Inv-loop branch-μ-loop
-branch-loop-holds t c = (search needs, c .before .before .before .before .before .pre .1 .1, begins pieces _ _ _ _ (c .before .before .before .before .before .pre .1 .0) _ (c .nothing .ensures), c .before .before .before .before .before .pre .1 .2)
+branch-loop-holds t c = (search needs, c .before .before .before .before .before .pre .1 .1, begins pieces _ _ _ _ (c .before .before .before .before .before .pre .1 .0) _ (c .nothing .ensures), refl)
 
 branch-byte-at-requires : (t : ℕ) → branch-lts.Need-byte-at-requires (branch-env t) (branch-at t) branch.Post branch-Inv-loop branch-μ-loop
 branch-byte-at-requires t c κs = search needs
@@ -130,10 +130,10 @@ branch-piece-requires : (t : ℕ) → branch-lts.Need-piece-requires (branch-env
 branch-piece-requires t c κs =
     let loop = c .before .before .before .before .before .loop in
     let on = loop .inv .2 .on in
-    (omega arith, (loop .inv .2 .few, loop .inv .1, loop .inv .3, sym (c .before .before .before .before .byte-at .ensures) ∙ c .before .before .before .if1 .taken))
+    (omega arith, (loop .inv .2 .few, loop .inv .1, sym (c .before .before .before .before .byte-at .ensures) ∙ c .before .before .before .if1 .taken))
 
 branch-lettered-requires : (t : ℕ) → branch-lts.Need-lettered-requires (branch-env t) (branch-at t) branch.Post branch-Inv-loop branch-μ-loop
-branch-lettered-requires t c κs = let loop = c .before .before .before .before .before .before .loop in (loop .inv .2 .few, loop .inv .1, loop .inv .0, loop .inv .3)
+branch-lettered-requires t c κs = let loop = c .before .before .before .before .before .before .loop in (loop .inv .2 .few, loop .inv .1, loop .inv .0)
 
 branch-join-requires : (t : ℕ) → branch-lts.Need-join-requires (branch-env t) (branch-at t) branch.Post branch-Inv-loop branch-μ-loop
 branch-join-requires t c κs = next-rows t (c .before)
@@ -148,7 +148,7 @@ branch-same-length-2 : (t : ℕ) → branch-lts.Need-same-length-2 (branch-env t
 branch-same-length-2 t c = next-sized t (c .before .before .before .before) .credits-are ∙ sym (c .before .before .before .before .before .before .before .before .before .before .before .before .pre .1 .1 .credits-are)
 
 branch-same-length-3 : (t : ℕ) → branch-lts.Need-same-length-3 (branch-env t) (branch-at t) branch.Post branch-Inv-loop branch-μ-loop
-branch-same-length-3 t c = next-more t (c .before .before .before .before) ∙ sym (c .before .before .before .before .before .before .before .before .before .before .before .before .pre .1 .2)
+branch-same-length-3 t c = next-more t (c .before .before .before .before)
 
 branch-returns : (t : ℕ) → branch-lts.Need-returns (branch-env t) (branch-at t) branch.Post branch-Inv-loop branch-μ-loop
 branch-returns t c =
@@ -165,7 +165,7 @@ branch-loop-again t c =
     (c .before .before .join .ensures .1, next-sized t (c .before .before .before .before), goes .0, next-more t (c .before .before .before .before))
 
 abbrev pattern-Inv-loop : pattern-lts.InvT-loop
-pattern-Inv-loop s at n sets₀ credits₀ more₀ all₀ so-far₀ sets credits more all so-far = (length all ≡ 61) × Sized sets credits × Sofar branches s at n (memory all₀ more₀ sets₀ credits₀) (memory all more sets credits) so-far × (length more ≡ 3721)
+pattern-Inv-loop s at n sets₀ credits₀ more₀ all₀ so-far₀ sets credits more all so-far = (length all ≡ 61) × Sized sets credits × Sofar branches s at n (memory all₀ more₀ sets₀ credits₀) (memory all more sets credits) so-far × (length more ≡ length more₀)
 
 abbrev pattern-μ-loop : pattern-lts.MeasureT-loop
 pattern-μ-loop s at n sets₀ credits₀ more₀ all₀ so-far₀ sets credits more all so-far = length s - so-far .at
@@ -174,13 +174,13 @@ pattern-nothing-requires : (t : ℕ) → pattern-lts.Need-nothing-requires (patt
 pattern-nothing-requires t c κs = search needs
 
 pattern-loop-holds : (t : ℕ) → pattern-lts.Need-loop-holds (pattern-env t) (pattern-at t) pattern.Post pattern-Inv-loop pattern-μ-loop
-pattern-loop-holds t c = (search needs, c .before .before .before .before .before .pre .1 .1, begins branches _ _ _ _ (c .before .before .before .before .before .pre .1 .0) _ (c .nothing .ensures), c .before .before .before .before .before .pre .1 .2)
+pattern-loop-holds t c = (search needs, c .before .before .before .before .before .pre .1 .1, begins branches _ _ _ _ (c .before .before .before .before .before .pre .1 .0) _ (c .nothing .ensures), refl)
 
 pattern-branch-requires : (t : ℕ) → pattern-lts.Need-branch-requires (pattern-env t) (pattern-at t) pattern.Post pattern-Inv-loop pattern-μ-loop
 pattern-branch-requires t c κs =
     let loop = c .before .before .before .loop in
     let on = loop .inv .2 .on in
-    (omega arith, (loop .inv .2 .few, loop .inv .1, loop .inv .3))
+    (omega arith, (loop .inv .2 .few, loop .inv .1))
 
 pattern-either-requires : (t : ℕ) → pattern-lts.Need-either-requires (pattern-env t) (pattern-at t) pattern.Post pattern-Inv-loop pattern-μ-loop
 pattern-either-requires t c κs = search needs
@@ -195,7 +195,7 @@ pattern-same-length-2 : (t : ℕ) → pattern-lts.Need-same-length-2 (pattern-en
 pattern-same-length-2 t c = c .before .before .before .before .before .before .before .before .before .before .before .branch .kept .1 .1 .1 .1 .1 .0 ∙ c .before .before .before .before .before .before .before .before .before .before .before .before .before .before .before .loop .inv .1 .credits-are ∙ sym (c .before .before .before .before .before .before .before .before .before .before .before .before .before .before .before .before .before .before .before .before .before .pre .1 .1 .credits-are)
 
 pattern-same-length-3 : (t : ℕ) → pattern-lts.Need-same-length-3 (pattern-env t) (pattern-at t) pattern.Post pattern-Inv-loop pattern-μ-loop
-pattern-same-length-3 t c = c .before .before .before .before .before .before .before .before .before .before .before .branch .kept .1 .1 .1 .1 .1 .1 .0 ∙ c .before .before .before .before .before .before .before .before .before .before .before .before .before .before .before .loop .inv .3 ∙ sym (c .before .before .before .before .before .before .before .before .before .before .before .before .before .before .before .before .before .before .before .before .before .pre .1 .2)
+pattern-same-length-3 t c = c .before .before .before .before .before .before .before .before .before .before .before .branch .kept .1 .1 .1 .1 .1 .1 .0 ∙ c .before .before .before .before .before .before .before .before .before .before .before .before .before .before .before .loop .inv .3
 
 pattern-returns : (t : ℕ) → pattern-lts.Need-returns (pattern-env t) (pattern-at t) pattern.Post pattern-Inv-loop pattern-μ-loop
 pattern-returns t c =
@@ -230,14 +230,14 @@ pattern-loop-again t c =
 piece-add-pattern : (t : ℕ) → piece-lts.Need-add-pattern (piece-env t) (piece-at t) piece.Post
 piece-add-pattern t c =
     let start = c .before .before .before .before in
-    let inside = next-within (start .args .s .now) (start .args .at) (omega (arith, start .pre .1 .3)) in
+    let inside = next-within (start .args .s .now) (start .args .at) (omega (arith, start .pre .1 .2)) in
     omega arith
 
 piece-pattern-requires : (t : ℕ) → piece-lts.Need-pattern-requires (piece-env t) (piece-at t) piece.Post
 piece-pattern-requires t c κs =
     let start = c .before .before .before .before .before .before .before in
-    let inside = next-within (start .args .s .now) (start .args .at) (omega (arith, start .pre .1 .3)) in
-    (omega arith, (omega arith, start .pre .1 .1, start .pre .1 .2))
+    let inside = next-within (start .args .s .now) (start .args .at) (omega (arith, start .pre .1 .2)) in
+    (omega arith, (omega arith, start .pre .1 .1))
 
 piece-closed-requires : (t : ℕ) → piece-lts.Need-closed-requires (piece-env t) (piece-at t) piece.Post
 piece-closed-requires t c κs = search needs
@@ -255,7 +255,7 @@ piece-same-length-3 : (t : ℕ) → piece-lts.Need-same-length-3 (piece-env t) (
 piece-same-length-3 t c = search needs
 
 piece-returns : (t : ℕ) → piece-lts.Need-returns (piece-env t) (piece-at t) piece.Post
-piece-returns t c = piece-open _ _ _ _ _ _ _ _ _ _ _ _ _ (c .before .before .before .before .before .before .before .before .before .before .before .before .before .before .before .before .before .before .before .before .before .pre .1 .3) (c .before .before .before .before .before .before .before .before .before .before .before .before .before .pattern .ensures) (c .before .before .before .before .before .closed .ensures _ _) (c .before .before .repeat .ensures .0)
+piece-returns t c = piece-open _ _ _ _ _ _ _ _ _ _ _ _ _ (c .before .before .before .before .before .before .before .before .before .before .before .before .before .before .before .before .before .before .before .before .before .pre .1 .2) (c .before .before .before .before .before .before .before .before .before .before .before .before .before .pattern .ensures) (c .before .before .before .before .before .closed .ensures _ _) (c .before .before .repeat .ensures .0)
 
 pub +branch+pattern+piece-spec : {M : Type 1} → statement M
 +branch+pattern+piece-spec = close μ-branch μ-pattern μ-piece (λ t. branch-lts.spec (branch-env t)

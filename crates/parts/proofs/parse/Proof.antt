@@ -1,15 +1,14 @@
 -- The depth to which the rules read a whole text is above the measure at its first byte. Assumes nothing.
-use mathlib.Core.Path.{ap, _∙_}
-use Prim.Native.Nat.{ℕ, suc, _*_}
+use Prim.Native.Nat.{suc, _*_}
 use native.Mathlib.Omega.{arith}
-use lib.ListN.{length, length-replicate}
+use lib.ListN.{length}
 use borrow.Author.Needs.{needs}
 use Rattle.parts.proofs.Parsing.{has-whole}
 use Rattle.parts.proofs.parse.Statement.{statement}
 use Rattle.parts.proofs.parse.Tie as tie
 
 pattern-requires : tie.Need-pattern-requires
-pattern-requires c κs = let pre = c .before .before .before .before .before .before .before .pre in (omega arith, pre .0, ap length (pre .2) ∙ length-replicate {A = ℕ} 3721 0)
+pattern-requires c κs = let pre = c .before .before .before .before .before .before .before .pre in (omega arith, pre .0)
 
 same-length : tie.Need-same-length
 same-length c = search needs

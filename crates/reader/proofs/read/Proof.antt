@@ -12,10 +12,10 @@ use borrow.Author.Tests.{lt-ltb, le-ltb, not-false}
 use Rattle.basics.proofs.Tests.{and-parts}
 use Rattle.pattern.specs.Grammar.{readPattern, isPattern, patternPart}
 use Rattle.pattern.specs.Positions.{positions}
-use Rattle.pattern.proofs.Depth.{links-few}
 use Rattle.parsed.specs.Parsed.{shapeOf}
 use Rattle.parts.specs.Parsing.{Whole}
 use Rattle.parsed.proofs.Storing.{none-stored}
+use Rattle.reader.proofs.Depth.{links-few}
 use Rattle.reader.proofs.Building.{stored-bounded, single-shown}
 use Rattle.reader.proofs.Refusals.{tests, Passes, fails-more, refuses, no-refusal, accepts, whole-pattern}
 use Rattle.reader.proofs.read.Statement.{statement}
@@ -162,8 +162,8 @@ returns-7 c =
     let l = few (c .before .before) in
     let passes = passes-6 (c .before .before) in
     let made = c .built .ensures in
-    accepts s _ _ passes refl (made .graph (patternPart s) _ w l (links-few s (no-refusal s passes))) (stored-bounded (patternPart s) _ _ (w .stored) l)
-    (λ d. single-shown (c .built .result) _ 3721 (w .single (sym (made .doubled) ∙ d)))
+    accepts s _ _ passes refl (λ k. made .graph (patternPart s) _ w l (links-few s (no-refusal s passes)) k) (stored-bounded (patternPart s) _ _ (w .stored) l)
+    (λ d. single-shown (c .built .result) (is .before .before .before .before .before .before .before .before .parse .last .1 .1 .1 .0) (w .none (sym (made .doubled) ∙ d)))
 
 pub read-spec : {M : Type 1} → statement M
 read-spec =
