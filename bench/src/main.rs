@@ -59,6 +59,8 @@ fn loads() -> Vec<Load> {
     let branch = |atom: &str, n: usize| format!("({atom}|{atom})").repeat(n);
     // 60 positions, each with two or four that may come next, in two branches of 13 and 17 steps: after some letters all are possible
     let busy = |atom: &str| format!("({}|{})*", branch(atom, 13), branch(atom, 17)).into_bytes();
+    // 60 positions, each with four that may come next, two of them by two links: after 30 letters all are possible
+    let twice = format!("({})*", "((.|.)+)+".repeat(30)).into_bytes();
     vec![
         Load {
             name: "every position possible, 4,096 letters",
@@ -69,6 +71,22 @@ fn loads() -> Vec<Load> {
             name: "each letter held by some, 4,096 letters",
             pattern: format!("({}|{}|{}|{})*", "[a-d]".repeat(13), "[c-f]".repeat(15), "[e-h]".repeat(16), "[a-h]".repeat(16)).into_bytes(),
             answers: (0..20).map(|_| text(b"abcdefgh", 4096)).collect(),
+        },
+        Load {
+            name: "repeats in repeats, 4,096 letters",
+            pattern: twice.clone(),
+            answers: (0..20).map(|_| text(b"abcdefgh", 4096)).collect(),
+        },
+        Load {
+            name: "repeats in repeats, 60 letters",
+            pattern: twice,
+            answers: (0..20).map(|_| text(b"abcdefgh", 60)).collect(),
+        },
+        // each of 60 positions after each, by two or three links
+        Load {
+            name: "all pairs linked twice, 4,096 letters",
+            pattern: format!("(({})*)*", ".*".repeat(60)).into_bytes(),
+            answers: vec![text(b"abcdefgh", 4096)],
         },
         Load {
             name: "ordinary text, 4,096 letters",
@@ -127,6 +145,7 @@ fn patterns() -> Vec<(&'static str, Vec<Vec<u8>>)> {
         ("sixty overlapping classes", one("[a-p]*[b-q]*".repeat(30))),
         ("sixty different positions in one repeat", one(format!("({})*", distinct.concat()))),
         ("sixty alternatives in one repeat", one(format!("({})*", distinct.join("|")))),
+        ("sixty alternatives in 131 repeats", one(format!("{}{}{}", "(".repeat(131), ["a"; 60].join("|"), ")*".repeat(131)))),
         (
             "ordinary patterns",
             ["colou?r", "(a|a)b", "(a|b|ab)*c", "[a-z]+( [a-z]+)*", "(th=1e|a=1) (quic=2k|slow) fox(es)?", "[0-9][0-9]?/[0-9][0-9]?/[0-9][0-9][0-9][0-9]", ".*is.*", "(he|she|it) (has|had) (been )?(go|do)ing"]

@@ -1,13 +1,56 @@
-//! The same work without proofs: a reader of patterns into sets, marking by sets, marking by all pairs of positions without sets,
-//! and the same search for a verdict. It is what the library is measured against.
+//! The same work without proofs: a reader of patterns into sets and numbers of links, marking by sets, marking by all pairs of
+//! positions without sets, and the same search for a verdict. It is what the library is measured against.
 
 #[derive(Clone)]
 pub struct Built {
     pub positions: usize,
     pub follow: [u64; 61],
+    /// How many links lead from a state to each position beyond the first one: entry k of a state's row holds the positions whose
+    /// number has binary digit k. Empty where no two are linked twice.
+    pub more: Vec<[u64; 8]>,
     pub lasts: u64,
     pub letters: [u128; 61],
     pub credits: [u8; 61],
+}
+
+impl Built {
+    /// One link more from a state to each of a set that it leads to already: an addition with carry.
+    #[inline(never)]
+    fn one_more(&mut self, a: usize, set: u64) {
+        if self.more.is_empty() {
+            self.more = vec![[0; 8]; 61];
+        }
+        let mut carry = set;
+        for digit in &mut self.more[a] {
+            if carry == 0 {
+                break;
+            }
+            (*digit, carry) = (*digit ^ carry, *digit & carry);
+        }
+    }
+
+    /// Entry i, u: how many links lead from state u to position i, where one does. Empty where no two are linked twice.
+    fn numbers(&self) -> Vec<[u8; 61]> {
+        if self.more.is_empty() {
+            return Vec::new();
+        }
+        let mut numbers = vec![[1u8; 61]; 61];
+        for (u, row) in self.more.iter().enumerate() {
+            for (k, digit) in row.iter().enumerate() {
+                let mut left = *digit;
+                while left != 0 {
+                    numbers[left.trailing_zeros() as usize][u] += 1 << k;
+                    left &= left - 1;
+                }
+            }
+        }
+        numbers
+    }
+
+    /// The positions to which two links or more lead from a state.
+    fn doubles(&self, u: usize) -> u64 {
+        self.more.get(u).map_or(0, |row| row.iter().fold(0, |all, d| all | d))
+    }
 }
 
 struct Reader<'a> {
@@ -37,8 +80,13 @@ impl Reader<'_> {
     fn link(&mut self, lasts: u64, firsts: u64) {
         let mut left = lasts;
         while left != 0 {
-            self.built.follow[left.trailing_zeros() as usize] |= firsts;
+            let a = left.trailing_zeros() as usize;
             left &= left - 1;
+            let old = self.built.follow[a] & firsts;
+            if old != 0 {
+                self.built.one_more(a, old);
+            }
+            self.built.follow[a] |= firsts;
         }
     }
 
@@ -181,7 +229,7 @@ pub fn read(text: &[u8]) -> Result<Built, u8> {
     if text.iter().any(|b| !(32..=126).contains(b)) {
         return Err(4);
     }
-    let built = Built { positions: 0, follow: [0; 61], lasts: 0, letters: [0; 61], credits: [0; 61] };
+    let built = Built { positions: 0, follow: [0; 61], more: Vec::new(), lasts: 0, letters: [0; 61], credits: [0; 61] };
     let mut r = Reader { text, at: 0, built, reversed: false, hollow: false, positions: 0 };
     let Some(part) = r.pattern().filter(|_| r.at == text.len()) else { return Err(5) };
     if r.reversed {
@@ -203,6 +251,35 @@ fn plus(a: u64, b: u64) -> u64 {
     (a.saturating_add(b)).min(1 << 63)
 }
 
+fn times(a: u64, links: u8) -> u64 {
+    a.saturating_mul(u64::from(links))
+}
+
+/// For each position the states before it, and for each letter the positions that hold it.
+struct Sets {
+    before: [u64; 61],
+    holders: [u64; 128],
+}
+
+fn sets(b: &Built) -> Sets {
+    let mut s = Sets { before: [0; 61], holders: [0; 128] };
+    for u in 0..=b.positions {
+        let mut left = b.follow[u];
+        while left != 0 {
+            s.before[left.trailing_zeros() as usize] |= 1 << u;
+            left &= left - 1;
+        }
+    }
+    for i in 1..=b.positions {
+        let mut left = b.letters[i];
+        while left != 0 {
+            s.holders[left.trailing_zeros() as usize] |= 1 << i;
+            left &= left - 1;
+        }
+    }
+    s
+}
+
 /// Marking by sets.
 pub fn mark(text: &[u8], answer: &[u8]) -> Result<(u64, u32), u8> {
     let b = read(text)?;
@@ -212,34 +289,25 @@ pub fn mark(text: &[u8], answer: &[u8]) -> Result<(u64, u32), u8> {
     if answer.iter().any(|c| !(32..=126).contains(c)) {
         return Err(10);
     }
-    let mut before = [0u64; 61];
-    for u in 0..=b.positions {
-        let mut left = b.follow[u];
-        while left != 0 {
-            before[left.trailing_zeros() as usize] |= 1 << u;
-            left &= left - 1;
-        }
-    }
-    let mut holders = [0u64; 128];
-    for i in 1..=b.positions {
-        let mut left = b.letters[i];
-        while left != 0 {
-            holders[left.trailing_zeros() as usize] |= 1 << i;
-            left &= left - 1;
-        }
-    }
+    let s = sets(&b);
+    let numbers = b.numbers();
+    // where no two are linked twice there is no multiplication
+    Ok(if numbers.is_empty() { mark_by::<false>(&b, &s, &numbers, answer) } else { mark_by::<true>(&b, &s, &numbers, answer) })
+}
+
+fn mark_by<const LINKED: bool>(b: &Built, s: &Sets, numbers: &[[u8; 61]], answer: &[u8]) -> (u64, u32) {
     let mut counts = [[0u64; 61]; 2];
     let mut best = [[0u32; 61]; 2];
     counts[0][0] = 1;
     let mut active = 1u64;
     let mut row = 0;
     for c in answer {
-        let mut left = holders[*c as usize & 127];
+        let mut left = s.holders[*c as usize & 127];
         let mut next = 0;
         while left != 0 {
             let i = left.trailing_zeros() as usize;
             left &= left - 1;
-            let mut from = before[i] & active;
+            let mut from = s.before[i] & active;
             if from == 0 {
                 continue;
             }
@@ -248,7 +316,7 @@ pub fn mark(text: &[u8], answer: &[u8]) -> Result<(u64, u32), u8> {
             while from != 0 {
                 let u = from.trailing_zeros() as usize;
                 from &= from - 1;
-                n = plus(n, counts[row][u]);
+                n = plus(n, if LINKED { times(counts[row][u], numbers[i][u]) } else { counts[row][u] });
                 m = m.max(best[row][u]);
             }
             counts[1 - row][i] = n;
@@ -257,7 +325,7 @@ pub fn mark(text: &[u8], answer: &[u8]) -> Result<(u64, u32), u8> {
         active = next;
         row = 1 - row;
         if active == 0 {
-            return Ok((0, 0));
+            return (0, 0);
         }
     }
     let (mut n, mut m) = (0, 0);
@@ -268,7 +336,7 @@ pub fn mark(text: &[u8], answer: &[u8]) -> Result<(u64, u32), u8> {
         n = plus(n, counts[row][u]);
         m = m.max(best[row][u]);
     }
-    Ok((n, m))
+    (n, m)
 }
 
 /// Marking by trying all pairs of positions at each letter, without sets.
@@ -280,6 +348,8 @@ pub fn mark_all_pairs(text: &[u8], answer: &[u8]) -> Result<(u64, u32), u8> {
     if answer.iter().any(|c| !(32..=126).contains(c)) {
         return Err(10);
     }
+    let numbers = b.numbers();
+    let linked = !numbers.is_empty();
     let mut follow = [[false; 61]; 61];
     let mut holds = [[false; 61]; 128];
     for u in 0..61 {
@@ -301,7 +371,7 @@ pub fn mark_all_pairs(text: &[u8], answer: &[u8]) -> Result<(u64, u32), u8> {
         for i in 1..=b.positions {
             for u in 0..=b.positions {
                 if follow[u][i] && held[i] {
-                    new_counts[i] = plus(new_counts[i], counts[u]);
+                    new_counts[i] = plus(new_counts[i], if linked { times(counts[u], numbers[i][u]) } else { counts[u] });
                     if let Some(m) = best[u] {
                         new_best[i] = new_best[i].max(Some(m + u32::from(b.credits[i])));
                     }
@@ -342,12 +412,12 @@ impl Search {
     }
 
     /// The queue number of the first goal, if there is one.
-    fn run(&mut self, b: &Built, shares: &[u64; 61], start: usize, goal: u64, parted: bool) -> Option<usize> {
+    fn run<const PARTED: bool>(&mut self, b: &Built, shares: &[u64; 61], start: usize, goal: u64) -> Option<usize> {
         self.seen = [0; 61];
         self.alone = 1 << start;
         self.tail = 0;
         self.push(start as u16, 0);
-        if !parted && goal >> start & 1 == 1 {
+        if !PARTED && goal >> start & 1 == 1 {
             return Some(0);
         }
         let mut head = 0;
@@ -355,16 +425,18 @@ impl Search {
             let node = self.queue[head] as usize;
             let (c, d) = if node < 64 { (node, node) } else { (node / 64, node % 64) };
             let mut left = b.follow[c];
+            let doubles = if node < 64 { b.doubles(c) } else { 0 };
             while left != 0 {
                 let a = left.trailing_zeros() as usize;
                 left &= left - 1;
                 let mut with = b.follow[d] & shares[a] & !self.seen[a];
                 if node < 64 {
-                    with &= !(1 << a);
+                    // two links to one position part the paths as two positions do
+                    with &= !(1 << a) | doubles;
                     if self.alone >> a & 1 == 0 {
                         self.alone |= 1 << a;
                         self.push(a as u16, head);
-                        if !parted && goal >> a & 1 == 1 {
+                        if !PARTED && goal >> a & 1 == 1 {
                             return Some(self.tail - 1);
                         }
                     }
@@ -375,7 +447,7 @@ impl Search {
                     self.seen[a] |= 1 << e;
                     self.seen[e] |= 1 << a;
                     self.push((a.max(e) * 64 + a.min(e)) as u16, head);
-                    if parted && goal >> a & 1 == 1 && goal >> e & 1 == 1 {
+                    if PARTED && goal >> a & 1 == 1 && goal >> e & 1 == 1 {
                         return Some(self.tail - 1);
                     }
                 }
@@ -417,20 +489,20 @@ pub fn vet(text: &[u8], s: &mut Search) -> Result<(u8, usize, [usize; 3], Vec<u8
     let mut out = Vec::new();
     let none = [0u64; 61];
     for q in 1..=b.positions {
-        if s.run(&b, &shares, q, 1 << q, true).is_some() {
-            let at = s.run(&b, &none, 0, 1 << q, false).unwrap_or(0);
+        if s.run::<true>(&b, &shares, q, 1 << q).is_some() {
+            let at = s.run::<false>(&b, &none, 0, 1 << q).unwrap_or(0);
             s.text(&b, at, &mut out);
             let x = out.len();
-            let at = s.run(&b, &shares, q, 1 << q, true).unwrap_or(0);
+            let at = s.run::<true>(&b, &shares, q, 1 << q).unwrap_or(0);
             s.text(&b, at, &mut out);
             let y = out.len() - x;
-            let at = s.run(&b, &none, q, b.lasts, false).unwrap_or(0);
+            let at = s.run::<false>(&b, &none, q, b.lasts).unwrap_or(0);
             s.text(&b, at, &mut out);
             let z = out.len() - x - y;
             return Ok((2, b.positions, [x, y, z], out));
         }
     }
-    if let Some(at) = s.run(&b, &shares, 0, b.lasts, true) {
+    if let Some(at) = s.run::<true>(&b, &shares, 0, b.lasts) {
         s.text(&b, at, &mut out);
         return Ok((1, b.positions, [out.len(), 0, 0], out));
     }

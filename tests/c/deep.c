@@ -33,6 +33,11 @@ int main(void) {
     pattern[255] = 'a';
     memset(pattern + 256, ')', 255);
     refusal_is("255 nested", pattern, 511, MARKING_ACCEPTED);
+    memset(pattern, '(', 170);
+    memcpy(pattern + 170, "a*", 2);
+    for (size_t i = 172; i < 512; i++)
+        pattern[i] = (uint8_t)")*"[i % 2];
+    refusal_is("170 nested repeats", pattern, 512, MARKING_ACCEPTED);
     memset(pattern, 'a', 512);
     refusal_is("512 letters", pattern, 512, MARKING_TOO_MANY_POSITIONS);
     for (size_t i = 0; i < 510; i++)

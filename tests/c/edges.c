@@ -140,6 +140,10 @@ static void whole_slices(void) {
     running = "mark, slices at the end of memory";
     pattern = at_the_end(runaway, strlen(runaway));
     check(marking_mark(pattern, strlen(runaway), answer, 7, count) == 0 && *count == 8);
+    running = "mark, links, slices at the end of memory";
+    pattern = at_the_end("((a*b?)*)*", 10);
+    answer = at_the_end("aab", 3);
+    check(marking_mark(pattern, 10, answer, 3, count) == 0 && *count == 9);
     running = "mark, one text as pattern and as answer";
     pattern = at_the_end("abc", 3);
     check(marking_mark(pattern, 3, pattern, 3, count) == 0 && *count == 1);

@@ -76,6 +76,9 @@ static void limits(void) {
     check("2^62 readings", mark("(a|a)*", 62, &count).refusal == MARKING_ACCEPTED && count == MARKING_COUNT_MAX / 2);
     check("2^63 readings", mark("(a|a)*", 63, &count).refusal == MARKING_ACCEPTED && count == MARKING_COUNT_MAX);
     check("more readings", mark("(a|a)*", 64, &count).refusal == MARKING_ACCEPTED && count == MARKING_COUNT_MAX);
+    check("2^63 - 1 readings by links", mark("(a+)+a*", 63, &count).refusal == MARKING_ACCEPTED && count == MARKING_COUNT_MAX - 1);
+    check("2^63 readings by links", mark("(a*)*", 64, &count).refusal == MARKING_ACCEPTED && count == MARKING_COUNT_MAX);
+    check("more readings by links", mark("((a*)*)*", 64, &count).refusal == MARKING_ACCEPTED && count == MARKING_COUNT_MAX);
 }
 
 static void refusals(void) {
@@ -96,6 +99,8 @@ static void verdicts(void) {
     v = vet("(a|a)b");
     check("steady", v.verdict == MARKING_STEADY && v.positions == 3 && v.text_len == 2 && v.x_len + v.y_len + v.z_len == 0);
     check("the steady text", memcmp(evidence, "ab", 2) == 0);
+    v = vet("(a*)*");
+    check("runaway by links", v.verdict == MARKING_RUNAWAY && v.positions == 1 && v.x_len == 1 && v.y_len == 1 && v.z_len <= 1);
     v = vet("(a|b|ab)*c");
     check("runaway", v.verdict == MARKING_RUNAWAY && v.positions == 5 && v.text_len == v.x_len + v.y_len + v.z_len);
     check("x, y and z", v.x_len == 1 && v.y_len == 3 && v.z_len == 1 && memcmp(evidence, "aabac", 5) == 0);

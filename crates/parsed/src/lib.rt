@@ -63,6 +63,7 @@ pub fn join(rows: &mut [u64; 61], a: Parsed, b: Parsed) -> Parsed
     ensures { λ r. ⌜ Joins (now (rows .entry)) (now (rows .exit)) a b r × (length (now (rows .exit)) ≡ 61) ⌝ }
 {
     links::link(rows, a.lasts, b.firsts);
+    let doubled = a.doubled | b.doubled;
     Parsed {
         good: b.good,
         at: b.at,
@@ -72,7 +73,7 @@ pub fn join(rows: &mut [u64; 61], a: Parsed, b: Parsed) -> Parsed
         lasts: links::union_if(b.empty, b.lasts, a.lasts),
         reversed: a.reversed | b.reversed,
         hollow: a.hollow | b.hollow,
-        doubled: a.doubled | b.doubled,
+        doubled: doubled,
     }
 }
 

@@ -1,6 +1,7 @@
-//! Tests of the library against the rules: specimens, edges of every refusal, the last positions and the first past them, answers
-//! short and long, calls one after another, lent scratch, threads, what the pages claim, and random patterns and answers against
-//! an independent model. The last line is 'N passed, M failed'. Arguments: how many random patterns, and a seed.
+//! Tests of the library against the rules: specimens, edges of every refusal, the last positions and the first past them, links by
+//! the hundred and counts at 2^63 by links, answers short and long, calls one after another, lent scratch, threads, what the pages
+//! claim, and random patterns and answers against an independent model. The last line is 'N passed, M failed'. Arguments: how many
+//! random patterns, and a seed.
 
 mod library;
 mod model;
@@ -102,10 +103,11 @@ fn lowest_for_two(t: &mut Tally, pattern: &[u8], p: &model::Pattern, x: &[u8], y
     let pivot = if y.is_empty() { 0 } else { p.first_pivot() };
     let (from, to) = (x.len(), x.len() + y.len());
     let lowest = |a: usize, b: usize| p.positions[a - 1].letters.intersection(&p.positions[b - 1].letters).next().copied();
-    let fits = |a: &Vec<usize>, b: &Vec<usize>| {
+    let at_pivot = |a: &[model::Step], i: usize| a[i - 1].position == pivot;
+    let fits = |a: &Vec<model::Step>, b: &Vec<model::Step>| {
         a != b
-            && (0..text.len()).all(|i| lowest(a[i], b[i]) == Some(text[i]))
-            && (pivot == 0 || (a[..from] == b[..from] && a[to..] == b[to..] && a[from - 1] == pivot && a[to - 1] == pivot && b[to - 1] == pivot))
+            && (0..text.len()).all(|i| lowest(a[i].position, b[i].position) == Some(text[i]))
+            && (pivot == 0 || (a[..from] == b[..from] && a[to..] == b[to..] && at_pivot(a, from) && at_pivot(a, to) && at_pivot(b, to)))
     };
     t.check(all.iter().any(|a| all.iter().any(|b| fits(a, b))), || format!("vet {}: no two such readings of {}", show(pattern), show(&text)));
 }
@@ -121,8 +123,26 @@ fn specimens(t: &mut Tally) {
     for (n, count) in [(62, 1 << 62), (63, MOST), (64, MOST), (4096, MOST)] {
         marks(t, b"(a|a)*", &vec![b'a'; n], count, 0);
     }
-    verdict_is(t, b"(a*)*", 0);
-    marks(t, b"(a*)*", b"aaa", 1, 0);
+    let links: [(&[u8], u8, &[u8], u64); 14] = [
+        (b"(a*)*", 2, b"aaa", 4),
+        (b"(a+)+", 2, b"aaa", 4),
+        (b"(a*)+", 2, b"aaa", 4),
+        (b"((a*)*)*", 2, b"aaa", 9),
+        (b"(a*b?)*", 2, b"aab", 4),
+        (b"(a*|b)*", 2, b"aab", 2),
+        (b"(a?b?)*", 2, b"abab", 4),
+        (b"(a*b*)*", 2, b"aabb", 8),
+        (b"([a-z]+ ?)+", 2, b"go on", 4),
+        (b"((ab)*)*", 2, b"ababab", 4),
+        (b"(ab*)*", 0, b"abbab", 1),
+        (b"(a?)*", 0, b"aaa", 1),
+        (b"(a?)+", 0, b"aaa", 1),
+        (b"((a?)?)?", 0, b"a", 1),
+    ];
+    for (pattern, verdict, answer, count) in links {
+        verdict_is(t, pattern, verdict);
+        marks(t, pattern, answer, count, 0);
+    }
     verdict_is(t, b"[a-l]*[m-z]*", 0);
     marks(t, b"[a-l]*[m-z]*", b"am", 1, 0);
     verdict_is(t, b"[a-m]*[m-z]*", 1);
@@ -145,10 +165,75 @@ fn specimens(t: &mut Tally) {
     t.same(mark(b"a*", &[b'a'; 4097]), Ok(Marked::Refused(9)), "4,097 letters");
     t.same(vet(b"a", 4095, 1), Ok(Vetted::Refused(1)), "4,095 bytes of evidence");
     t.same(vet(b"a", 0, 1), Ok(Vetted::Refused(1)), "no evidence");
-    for (p, v) in [(&b"colou?r"[..], 0), (b"(a|b|ab)*c", 2), (b"(ab*)*", 0), (b"(a*b*)*", 0), (b"(a*a)*", 2), (b".*.*", 1), (b"(a|b)*abb", 0)] {
+    for (p, v) in [(&b"colou?r"[..], 0), (b"(a|b|ab)*c", 2), (b"(a*a)*", 2), (b".*.*", 1), (b"(a|b)*abb", 0)] {
         verdict_is(t, p, v);
     }
     refuses(t, b"a)", 5);
+}
+
+/// The part with so many brackets around it, one in another, each with the repeat.
+fn nest(part: &str, times: usize, repeat: char) -> String {
+    format!("{}{part}{}", "(".repeat(times), format!("){repeat}").repeat(times))
+}
+
+/// A count, as the rules and as the model have it.
+fn counts(t: &mut Tally, pattern: &str, answer: &str, count: u128) {
+    let p = model::read(pattern.as_bytes()).expect("a good pattern");
+    t.same(p.count_from_the_end(answer.as_bytes(), 1 << 100), count, &format!("the model: {pattern} on {answer}"));
+    marks(t, pattern.as_bytes(), answer.as_bytes(), count.min(u128::from(MOST)) as u64, 0);
+}
+
+/// Many links between two positions: 171 are the most that 512 bytes can make.
+fn many_links(t: &mut Tally) {
+    for times in [1, 2, 3, 15, 16, 126, 127, 128, 169, 170] {
+        for repeat in ['*', '+'] {
+            for (part, own) in [("a*", 1), ("a+", 1), ("a?", 0), ("a", 0)] {
+                let pattern = nest(part, times, repeat);
+                let links = (times + own) as u128;
+                verdict_is(t, pattern.as_bytes(), if links >= 2 { 2 } else { 0 });
+                for letters in 1..=12 {
+                    counts(t, &pattern, &"a".repeat(letters), links.pow(letters as u32 - 1));
+                }
+            }
+        }
+    }
+    let sixty = nest(&["a"; 60].join("|"), 131, '*');
+    verdict_is(t, sixty.as_bytes(), 2);
+    for letters in 1..=8 {
+        counts(t, &sixty, &"a".repeat(letters), 60u128.pow(letters as u32) * 131u128.pow(letters as u32 - 1));
+    }
+    let credits = nest("a=1|b=2*", 100, '*');
+    marks(t, credits.as_bytes(), b"abba", 100 * 101 * 100, 6);
+    marks(t, credits.as_bytes(), &b"ab".repeat(2048), MOST, 3 * 2048);
+}
+
+/// Counts around 2^63 that are reached by links: as a sum at the end or at a letter, as a product, and from what was cut before.
+fn counts_by_links(t: &mut Tally) {
+    for k in (1..=5).chain(52..=66) {
+        let a = "a".repeat(k);
+        let two = 1u128 << k;
+        // up to some letter the readings double with each, and from there on there is one
+        for (pattern, count) in [("(a+)+a*", two - 1), ("(a*)*a*", two), ("(a*)*a*|a*", two + 1)] {
+            counts(t, pattern, &a, count);
+            counts(t, &format!("({pattern})b"), &format!("{a}b"), count);
+            counts(t, &format!("({pattern})b"), &a, 0);
+            // after them a step by so many links, twice
+            for links in [2, 3, 7, 8, 127, 128, 150] {
+                let pattern = format!("({pattern}){}", nest("b?c?", links - 1, '*'));
+                counts(t, &pattern, &format!("{a}bc"), count * links as u128);
+                counts(t, &pattern, &format!("{a}bcbc"), count * (links * links * (links - 1)) as u128);
+            }
+        }
+    }
+    // 2^63 - 1 is 7 times the sum of the powers of 8 from 8^0 to 8^20
+    let eights = nest("a+", 7, '+');
+    for (links, letters) in [(6, 21), (7, 20), (7, 21), (7, 22), (8, 21), (9, 21)] {
+        let sum: u128 = (0..letters).map(|i| 1 << (3 * i)).sum();
+        counts(t, &format!("{eights}a*{}", nest("b?c?", links - 1, '*')), &format!("{}bc", "a".repeat(letters)), sum * links as u128);
+    }
+    for (links, letters) in [(2, 63), (2, 64), (2, 65), (4, 32), (4, 33), (8, 21), (8, 22), (8, 23)] {
+        counts(t, &nest("a*", links - 1, '*'), &"a".repeat(letters), (links as u128).pow(letters as u32 - 1));
+    }
 }
 
 /// Both sides of each refusal's edge, and the order in which they are checked.
@@ -321,6 +406,16 @@ fn threads(t: &mut Tally) {
     }
 }
 
+/// The platform's matcher, where the pattern is none that takes it too long.
+fn second_opinion(t: &mut Tally, text: &[u8], p: &model::Pattern) -> Option<posix::Regex> {
+    if posix::nested_repeats(&p.tree) > 3 {
+        return None;
+    }
+    let regex = posix::Regex::new(p);
+    t.check(regex.is_some(), || format!("regcomp of {}", show(text)));
+    regex
+}
+
 fn random_cases(t: &mut Tally, patterns: usize, seed: u64) {
     println!("random patterns: {patterns}, seed {seed}");
     let mut r = Random::new(seed);
@@ -333,11 +428,28 @@ fn random_cases(t: &mut Tally, patterns: usize, seed: u64) {
                 if p.positions.len() <= 12 || k % 50 == 0 {
                     evidence(t, &text, &p, p.verdict());
                 }
-                let regex = posix::Regex::new(&p);
-                t.check(regex.is_some(), || format!("regcomp of {}", show(&text)));
+                let regex = second_opinion(t, &text, &p);
                 for _ in 0..3 {
                     let answer = random::answer(&mut r, &p);
                     as_in_model(t, &text, &p, &answer, regex.as_ref());
+                }
+            }
+        }
+    }
+}
+
+/// Repeats in repeats, and answers of many rounds: counts that pass 2^63 by sums and by links, and marks.
+fn random_rounds(t: &mut Tally, patterns: usize, seed: u64) {
+    let mut r = Random::new(seed ^ 0x5eed);
+    for _ in 0..patterns {
+        let text = random::rounds(&mut r);
+        match model::read(&text) {
+            Err(refusal) => refuses(t, &text, refusal),
+            Ok(p) => {
+                let regex = second_opinion(t, &text, &p);
+                for letters in [4, 40, 120] {
+                    let answer = random::long_answer(&mut r, &p, letters);
+                    as_in_model(t, &text, &p, &answer, regex.as_ref().filter(|_| letters == 4));
                 }
             }
         }
@@ -356,11 +468,16 @@ fn as_in_model(t: &mut Tally, text: &[u8], p: &model::Pattern, answer: &[u8], re
         t.check(false, name);
         return;
     };
-    if let Some(lists) = p.readings(answer, 20_000) {
+    if let Some(lists) = p.readings(answer, 5_000) {
         let best = lists.iter().map(|l| p.credit(l)).max().unwrap_or(0);
         t.check(count == lists.len() as u64 && u64::from(mark) == best, || format!("{}; want {} and {best}", name(), lists.len()));
     }
-    t.check(u128::from(count) == p.count_from_the_end(answer, u128::from(MOST)), name);
+    if answer.len() <= 10 {
+        let ways = p.ways(answer, u128::from(MOST));
+        t.check(u128::from(count) == ways, || format!("{}; {ways} ways through the tree", name()));
+    }
+    let want = p.from_the_end(answer, u128::from(MOST)).unwrap_or((0, 0));
+    t.check((u128::from(count), u64::from(mark)) == want, || format!("{}; want {want:?}", name()));
     if let Some(x) = regex {
         t.check((count > 0) == x.matches(answer), || format!("{}; regexec says {}", name(), x.matches(answer)));
     }
@@ -372,6 +489,8 @@ fn main() {
     let seed = args.get(2).map_or(1, |a| a.parse().expect("a seed"));
     let mut t = Tally { passed: 0, failed: 0 };
     specimens(&mut t);
+    many_links(&mut t);
+    counts_by_links(&mut t);
     edges(&mut t);
     last_positions(&mut t);
     some_256_letters(&mut t);
@@ -380,6 +499,7 @@ fn main() {
     threads(&mut t);
     pages::run(&mut t);
     random_cases(&mut t, patterns, seed);
+    random_rounds(&mut t, patterns / 10, seed);
     println!("{} passed, {} failed", t.passed, t.failed);
     std::process::exit(i32::from(t.failed > 0));
 }

@@ -1,6 +1,7 @@
 //! The rules once more, written from docs/RULES.md and from nothing else: patterns are parsed into a tree, positions
-//! get their sets by plain sets of numbers, readings are enumerated one by one, and the verdict is decided by strongly
-//! connected components. Nothing here is shared with the program under test, neither code nor idea.
+//! get their sets by plain sets of numbers, links are counted in a table, readings are enumerated one by one, and the verdict
+//! is decided by strongly connected components. Ways through the tree, which know no positions, are counted besides. Nothing here
+//! is shared with the program under test, neither code nor idea.
 
 use std::collections::{BTreeSet, HashSet};
 
@@ -26,7 +27,18 @@ pub struct Pattern {
     pub empty: bool,
     pub firsts: BTreeSet<usize>,
     pub lasts: BTreeSet<usize>,
-    pub follow: HashSet<(usize, usize)>,
+    /// entry a, b: how many links lead from position a to position b
+    pub links: Links,
+}
+
+pub type Links = Vec<Vec<u64>>;
+
+/// A reading's step: the position, and which of the links from the position before leads there. They are numbered from 0, and so
+/// is the one that leads to a first.
+#[derive(Clone, Copy, Debug, PartialEq, Eq)]
+pub struct Step {
+    pub position: usize,
+    pub link: u64,
 }
 
 const SPECIAL: &[u8] = b"|*+?()[]{}^$.\\=";
@@ -168,21 +180,22 @@ struct Facts {
     lasts: BTreeSet<usize>,
 }
 
-fn link(from: &BTreeSet<usize>, to: &BTreeSet<usize>, follow: &mut HashSet<(usize, usize)>) {
+/// A joining or a repeat that lets each of some positions follow each of others: one link more for each two.
+fn link(from: &BTreeSet<usize>, to: &BTreeSet<usize>, links: &mut Links) {
     for a in from {
         for b in to {
-            follow.insert((*a, *b));
+            links[*a][*b] += 1;
         }
     }
 }
 
-fn facts(part: &Part, follow: &mut HashSet<(usize, usize)>) -> Facts {
+fn facts(part: &Part, links: &mut Links) -> Facts {
     match part {
         Part::Letter(i) => Facts { empty: false, firsts: BTreeSet::from([*i]), lasts: BTreeSet::from([*i]) },
         Part::Either(parts) => {
             let mut all = Facts { empty: false, firsts: BTreeSet::new(), lasts: BTreeSet::new() };
             for p in parts {
-                let f = facts(p, follow);
+                let f = facts(p, links);
                 all.empty |= f.empty;
                 all.firsts.extend(f.firsts);
                 all.lasts.extend(f.lasts);
@@ -190,10 +203,10 @@ fn facts(part: &Part, follow: &mut HashSet<(usize, usize)>) -> Facts {
             all
         }
         Part::Joined(parts) => {
-            let mut a = facts(&parts[0], follow);
+            let mut a = facts(&parts[0], links);
             for p in &parts[1..] {
-                let b = facts(p, follow);
-                link(&a.lasts, &b.firsts, follow);
+                let b = facts(p, links);
+                link(&a.lasts, &b.firsts, links);
                 if a.empty {
                     a.firsts.extend(b.firsts);
                 }
@@ -203,9 +216,9 @@ fn facts(part: &Part, follow: &mut HashSet<(usize, usize)>) -> Facts {
             a
         }
         Part::Repeat(k, p) => {
-            let mut f = facts(p, follow);
+            let mut f = facts(p, links);
             if *k != b'?' {
-                link(&f.lasts.clone(), &f.firsts.clone(), follow);
+                link(&f.lasts, &f.firsts, links);
             }
             f.empty |= *k != b'+';
             f
@@ -235,9 +248,10 @@ pub fn read(text: &[u8]) -> Result<Pattern, u8> {
     if parser.positions.len() > 60 {
         return Err(8);
     }
-    let mut follow = HashSet::new();
-    let f = facts(&tree, &mut follow);
-    Ok(Pattern { tree, positions: parser.positions, empty: f.empty, firsts: f.firsts, lasts: f.lasts, follow })
+    let states = parser.positions.len() + 1;
+    let mut links = vec![vec![0; states]; states];
+    let f = facts(&tree, &mut links);
+    Ok(Pattern { tree, positions: parser.positions, empty: f.empty, firsts: f.firsts, lasts: f.lasts, links })
 }
 
 impl Pattern {
@@ -245,36 +259,45 @@ impl Pattern {
         self.positions[i - 1].letters.contains(&letter)
     }
 
-    /// Is this list of positions a reading of the answer: sentence by sentence.
-    pub fn is_reading(&self, answer: &[u8], list: &[usize]) -> bool {
+    fn follows(&self, a: usize, b: usize) -> bool {
+        self.links[a][b] > 0
+    }
+
+    /// Is this list of steps a reading of the answer: sentence by sentence.
+    pub fn is_reading(&self, answer: &[u8], list: &[Step]) -> bool {
         if answer.len() != list.len() {
             return false;
         }
         let (Some(first), Some(last)) = (list.first(), list.last()) else {
             return self.empty;
         };
-        self.firsts.contains(first)
-            && self.lasts.contains(last)
-            && list.windows(2).all(|w| self.follow.contains(&(w[0], w[1])))
-            && list.iter().zip(answer).all(|(i, b)| self.holds(*i, *b))
+        self.firsts.contains(&first.position)
+            && first.link == 0
+            && self.lasts.contains(&last.position)
+            && list.windows(2).all(|w| w[1].link < self.links[w[0].position][w[1].position])
+            && list.iter().zip(answer).all(|(s, b)| self.holds(s.position, *b))
+    }
+
+    /// The steps that may come after some others.
+    fn next_steps(&self, list: &[Step]) -> Vec<Step> {
+        let links = |i: usize| match list.last() {
+            None => u64::from(self.firsts.contains(&i)),
+            Some(s) => self.links[s.position][i],
+        };
+        (1..=self.positions.len()).flat_map(|position| (0..links(position)).map(move |link| Step { position, link })).collect()
     }
 
     /// All readings, one by one, as long as there are no more than `most`.
-    pub fn readings(&self, answer: &[u8], most: usize) -> Option<Vec<Vec<usize>>> {
-        let mut lists: Vec<Vec<usize>> = vec![Vec::new()];
-        for (k, b) in answer.iter().enumerate() {
+    pub fn readings(&self, answer: &[u8], most: usize) -> Option<Vec<Vec<Step>>> {
+        let mut lists: Vec<Vec<Step>> = vec![Vec::new()];
+        for b in answer {
             let mut longer = Vec::new();
             for list in &lists {
-                for i in 1..=self.positions.len() {
-                    let may = if k == 0 { self.firsts.contains(&i) } else { self.follow.contains(&(list[k - 1], i)) };
-                    if may && self.holds(i, *b) {
-                        let mut l = list.clone();
-                        l.push(i);
-                        longer.push(l);
-                        if longer.len() > most {
-                            return None;
-                        }
+                for step in self.next_steps(list).into_iter().filter(|s| self.holds(s.position, *b)) {
+                    if longer.len() == most {
+                        return None;
                     }
+                    longer.push([&list[..], &[step]].concat());
                 }
             }
             lists = longer;
@@ -283,43 +306,88 @@ impl Pattern {
         Some(lists)
     }
 
-    pub fn credit(&self, list: &[usize]) -> u64 {
-        list.iter().map(|i| self.positions[*i - 1].credit).sum()
+    pub fn credit(&self, list: &[Step]) -> u64 {
+        list.iter().map(|s| self.positions[s.position - 1].credit).sum()
     }
 
-    /// The number of readings of a long answer, up to a limit, by going through it from its end.
-    pub fn count_from_the_end(&self, answer: &[u8], limit: u128) -> u128 {
+    /// The number of readings of a long answer, up to a limit, and the most that one of them earns, by going through it from its
+    /// end. Nothing where there is no reading.
+    pub fn from_the_end(&self, answer: &[u8], limit: u128) -> Option<(u128, u64)> {
         let p = self.positions.len();
-        let mut after: Vec<u128> = (0..=p).map(|i| u128::from(i > 0 && self.lasts.contains(&i))).collect();
         if answer.is_empty() {
-            return u128::from(self.empty);
+            return self.empty.then_some((1, 0));
         }
-        for k in (1..answer.len()).rev() {
-            let before = (0..=p)
-                .map(|a| {
-                    let sum: u128 =
-                        (1..=p).filter(|i| a > 0 && self.follow.contains(&(a, *i)) && self.holds(*i, answer[k])).map(|i| after[i]).sum();
-                    sum.min(limit)
-                })
-                .collect();
-            after = before;
+        let mut after: Vec<Option<(u128, u64)>> = (0..=p).map(|i| self.lasts.contains(&i).then_some((1, 0))).collect();
+        for k in (0..answer.len()).rev() {
+            let links = |a: usize, i: usize| if k == 0 { u64::from(self.firsts.contains(&i)) } else { self.links[a][i] };
+            let from = |a: usize| {
+                let ways = (1..=p).filter(|i| links(a, *i) > 0 && self.holds(*i, answer[k]));
+                let each = ways.filter_map(|i| after[i].map(|(n, m)| (n * u128::from(links(a, i)), m + self.positions[i - 1].credit)));
+                each.reduce(|x, y| ((x.0 + y.0).min(limit), x.1.max(y.1))).map(|(n, m)| (n.min(limit), m))
+            };
+            after = (0..=p).map(from).collect();
         }
-        let sum: u128 = (1..=p).filter(|i| self.firsts.contains(i) && self.holds(*i, answer[0])).map(|i| after[i]).sum();
-        sum.min(limit)
+        after[0]
+    }
+
+    pub fn count_from_the_end(&self, answer: &[u8], limit: u128) -> u128 {
+        self.from_the_end(answer, limit).map_or(0, |r| r.0)
+    }
+
+    /// The number of ways through the tree that read the answer, up to a limit: which branch is taken, where a piece of a branch
+    /// ends, and where each round of a repeat ends. A round reads one letter or more, and what is empty is so in one way.
+    pub fn ways(&self, answer: &[u8], limit: u128) -> u128 {
+        self.ways_of(&self.tree, answer, limit)[0][answer.len()]
+    }
+
+    /// Entry i, j: the number of ways in which the part reads the letters from i to before j.
+    fn ways_of(&self, part: &Part, answer: &[u8], limit: u128) -> Vec<Vec<u128>> {
+        let n = answer.len();
+        let sum = |terms: &mut dyn Iterator<Item = u128>| terms.fold(0, u128::saturating_add).min(limit);
+        let table = |entry: &dyn Fn(usize, usize) -> u128| -> Vec<Vec<u128>> {
+            (0..=n).map(|i| (0..=n).map(|j| if i <= j { entry(i, j) } else { 0 }).collect()).collect()
+        };
+        match part {
+            Part::Letter(p) => table(&|i, j| u128::from(i + 1 == j && self.holds(*p, answer[i]))),
+            Part::Either(parts) => {
+                let all: Vec<_> = parts.iter().map(|p| self.ways_of(p, answer, limit)).collect();
+                table(&|i, j| sum(&mut all.iter().map(|t| t[i][j])).min(if i == j { 1 } else { limit }))
+            }
+            Part::Joined(parts) => {
+                let all = parts.iter().map(|p| self.ways_of(p, answer, limit));
+                all.reduce(|a, b| table(&|i, j| sum(&mut (i..=j).map(|k| a[i][k].saturating_mul(b[k][j]))))).unwrap()
+            }
+            Part::Repeat(k, p) => {
+                let mut t = self.ways_of(p, answer, limit);
+                if *k != b'?' {
+                    let once = t.clone();
+                    for i in (0..n).rev() {
+                        for j in i + 1..=n {
+                            t[i][j] = sum(&mut (i + 1..=j).map(|k| once[i][k].saturating_mul(if k == j { 1 } else { t[k][j] })));
+                        }
+                    }
+                }
+                for (i, row) in t.iter_mut().enumerate() {
+                    row[i] |= u128::from(*k != b'+');
+                }
+                t
+            }
+        }
     }
 
     fn share(&self, a: usize, b: usize) -> bool {
         self.positions[a - 1].letters.intersection(&self.positions[b - 1].letters).next().is_some()
     }
 
-    /// 0 single, 1 steady, 2 runaway. Runaway: a pair of different positions lies in one strongly connected component with a pair
-    /// (q, q). Ambiguous: such a pair is reached from a pair of firsts and leads to a pair of lasts.
+    /// 0 single, 1 steady, 2 runaway. Two paths part at a pair of different positions, or between (v, v) and (a, a) where two links
+    /// or more lead from v to a. Runaway: they part in one strongly connected component with a pair (q, q). Ambiguous: where they part
+    /// is reached from a pair of firsts and leads to a pair of lasts.
     pub fn verdict(&self) -> u8 {
         let p = self.positions.len();
         let id = |a: usize, b: usize| (a - 1) * p + (b - 1);
         let mut out: Vec<Vec<usize>> = vec![Vec::new(); p * p];
         let mut back: Vec<Vec<usize>> = vec![Vec::new(); p * p];
-        let next: Vec<Vec<usize>> = (1..=p).map(|a| (1..=p).filter(|b| self.follow.contains(&(a, *b))).collect()).collect();
+        let next: Vec<Vec<usize>> = (1..=p).map(|a| (1..=p).filter(|b| self.follows(a, *b)).collect()).collect();
         for a in 1..=p {
             for b in 1..=p {
                 for c in &next[a - 1] {
@@ -343,10 +411,15 @@ impl Pattern {
             }
             seen
         };
+        let part = |there: &[bool], on: &[bool]| {
+            let different = |a: usize, b: usize| a != b && there[id(a, b)] && on[id(a, b)];
+            let by_links = |v: usize, a: usize| self.links[v][a] >= 2 && there[id(v, v)] && on[id(a, a)];
+            (1..=p).any(|a| (1..=p).any(|b| different(a, b) || by_links(a, b)))
+        };
         for q in 1..=p {
             let there = from(vec![id(q, q)], &out);
             let again = from(vec![id(q, q)], &back);
-            if (1..=p).any(|a| (1..=p).any(|b| a != b && there[id(a, b)] && again[id(a, b)])) {
+            if part(&there, &again) {
                 return 2;
             }
         }
@@ -363,7 +436,7 @@ impl Pattern {
         let ends = pairs(&self.lasts).into_iter().map(|(a, b)| id(a, b)).collect();
         let there = from(starts, &out);
         let on = from(ends, &back);
-        u8::from((1..=p).any(|a| (1..=p).any(|b| a != b && there[id(a, b)] && on[id(a, b)])))
+        u8::from(part(&there, &on))
     }
 
     /// The first position with two different loops over one text, or 0.
@@ -376,8 +449,9 @@ impl Pattern {
             while let Some((a, b, parted)) = stack.pop() {
                 for c in 1..=p {
                     for d in 1..=p {
-                        if self.follow.contains(&(a, c)) && self.follow.contains(&(b, d)) && self.share(c, d) {
-                            let n = (c, d, parted || c != d);
+                        if self.follows(a, c) && self.follows(b, d) && self.share(c, d) {
+                            let by_links = a == b && c == d && self.links[a][c] >= 2;
+                            let n = (c, d, parted || c != d || by_links);
                             if n == (q, q, true) {
                                 return q;
                             }

@@ -14,7 +14,7 @@ use std::fs;
 use std::path::{Path, PathBuf};
 
 /// The pages, and how many claims each makes.
-const PAGES: [(&str, u32); 3] = [("README.md", 3), ("docs/RULES.md", 85), ("docs/VERDICTS.md", 170)];
+const PAGES: [(&str, u32); 3] = [("README.md", 4), ("docs/RULES.md", 115), ("docs/VERDICTS.md", 180)];
 
 /// Tables that make no claim of this kind, by their headers.
 const WORDS: [&str; 5] = [
@@ -111,8 +111,11 @@ fn text(cell: &str) -> Option<Vec<u8>> {
     (!whole.is_empty()).then_some(whole)
 }
 
-/// 65,536 or 2^63 or 7.
+/// 65,536 or 2^63 or 2^63 - 1 or 7.
 fn number(cell: &str) -> Option<u64> {
+    if let Some((power, less)) = cell.split_once(" - ") {
+        return number(power)?.checked_sub(number(less)?);
+    }
     match cell.strip_prefix("2^") {
         Some(power) => 1u64.checked_shl(power.parse().ok()?),
         None => cell.replace(',', "").parse().ok(),

@@ -56,6 +56,15 @@ fn written(p: &Pattern, part: &Part, out: &mut String) {
     out.push(')');
 }
 
+/// How many repeats stand one in another. The time that regcomp takes can double with each.
+pub fn nested_repeats(part: &Part) -> usize {
+    match part {
+        Part::Letter(_) => 0,
+        Part::Either(parts) | Part::Joined(parts) => parts.iter().map(nested_repeats).max().unwrap_or(0),
+        Part::Repeat(_, q) => nested_repeats(q) + 1,
+    }
+}
+
 pub struct Regex {
     memory: Box<[u64; 64]>,
 }

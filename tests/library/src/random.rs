@@ -50,8 +50,26 @@ fn lettered(r: &mut Random, out: &mut Vec<u8>, wild: bool) {
     }
 }
 
+/// A pattern with one to three brackets around it, now and then up to thirty, most of them with a repeat.
+fn nested(r: &mut Random, out: &mut Vec<u8>, depth: usize, wild: bool) {
+    let most = if r.chance(4) { 30 } else { 3 };
+    let times = 1 + r.below(most);
+    out.extend(vec![b'('; times]);
+    pattern_into(r, out, depth, wild);
+    for _ in 0..times {
+        out.push(b')');
+        if r.chance(90) {
+            out.push(*r.pick(b"***++?"));
+        }
+    }
+}
+
 fn piece(r: &mut Random, out: &mut Vec<u8>, depth: usize, wild: bool) {
-    if depth > 0 && r.chance(40) {
+    if depth > 0 && r.chance(12) {
+        nested(r, out, depth - 1, wild);
+        return;
+    }
+    if depth > 0 && r.chance(35) {
         out.push(b'(');
         pattern_into(r, out, depth - 1, wild);
         out.push(b')');
@@ -96,8 +114,21 @@ pub fn pattern(r: &mut Random, wild: bool) -> Vec<u8> {
     out
 }
 
-/// A text of the part, or of some prefix of a walk through it.
-fn walk(r: &mut Random, p: &Pattern, part: &Part, out: &mut Vec<u8>) {
+/// Repeats in repeats around a pattern, so that an answer may have many rounds.
+pub fn rounds(r: &mut Random) -> Vec<u8> {
+    let mut out = vec![b'('];
+    let depth = r.below(2);
+    nested(r, &mut out, depth, false);
+    out.extend(b")*");
+    out
+}
+
+/// A text of the part, or of some prefix of a walk through it; `left` is how many parts the walk may still enter.
+fn walk(r: &mut Random, p: &Pattern, part: &Part, out: &mut Vec<u8>, left: &mut usize) {
+    if *left == 0 {
+        return;
+    }
+    *left -= 1;
     match part {
         Part::Letter(i) => {
             let set: Vec<u8> = p.positions[*i - 1].letters.iter().copied().collect();
@@ -107,11 +138,11 @@ fn walk(r: &mut Random, p: &Pattern, part: &Part, out: &mut Vec<u8>) {
         }
         Part::Either(parts) => {
             let q = r.pick(parts);
-            walk(r, p, q, out);
+            walk(r, p, q, out, left);
         }
         Part::Joined(parts) => {
             for q in parts {
-                walk(r, p, q, out);
+                walk(r, p, q, out, left);
             }
         }
         Part::Repeat(k, q) => {
@@ -121,7 +152,7 @@ fn walk(r: &mut Random, p: &Pattern, part: &Part, out: &mut Vec<u8>) {
                 _ => 1 + r.below(3),
             };
             for _ in 0..n {
-                walk(r, p, q, out);
+                walk(r, p, q, out, left);
             }
         }
     }
@@ -136,7 +167,7 @@ pub fn answer(r: &mut Random, p: &Pattern) -> Vec<u8> {
         }
         return out;
     }
-    walk(r, p, &p.tree, &mut out);
+    walk(r, p, &p.tree, &mut out, &mut 1000);
     out.truncate(10);
     if r.chance(20) && !out.is_empty() {
         let at = r.below(out.len());
@@ -144,6 +175,17 @@ pub fn answer(r: &mut Random, p: &Pattern) -> Vec<u8> {
     }
     if r.chance(2) {
         out.push(*r.pick(&[10u8, 127, 31, 200, 0]));
+    }
+    out
+}
+
+/// An answer of about so many letters: one text of the pattern after another, which together are one if the pattern is a repeat.
+pub fn long_answer(r: &mut Random, p: &Pattern, letters: usize) -> Vec<u8> {
+    let mut out = Vec::new();
+    for _ in 0..letters {
+        if out.len() < letters {
+            walk(r, p, &p.tree, &mut out, &mut 200);
+        }
     }
     out
 }
