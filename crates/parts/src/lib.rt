@@ -7,7 +7,7 @@ ghost use mathlib.Core.Path.{_≡_};
 ghost use mathlib.Core.Bool.{_&&_};
 ghost use mathlib.Core.List.{[]};
 ghost use Prim.Native.Nat.{_≤_};
-ghost use lib.ListN.{length, drop, replicate};
+ghost use lib.ListN.{drop};
 ghost use Rattle.pattern.specs.Grammar.{goesOn, patternFrom, branchFrom, pieceFrom};
 ghost use Rattle.links.specs.Rows.{NoneCounted};
 ghost use Rattle.parsed.specs.Tables.{Sized, Stored};

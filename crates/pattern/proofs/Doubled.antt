@@ -1,15 +1,14 @@
 -- Where two links or more lead from one position to another, one of them is a repeat's: a joining alone links the two once, as they
 -- lie on different sides of it. So both lie in that repeat, and from the second a way leads on to an end of it, round, and back to
 -- the first. With refusal 7 an accepted pattern's graph is trim. Assumes nothing.
-use mathlib.Core.Path.{_≡_, refl, sym, ap, _∙_}
+use mathlib.Core.Path.{_≡_, refl}
 use mathlib.Core.Logic.{_⊎_, inl, inr, ⊎-elim}
-use mathlib.Core.Bool.{Bool, true, false, _&&_}
+use mathlib.Core.Bool.{true, _&&_}
 use mathlib.Core.List.{List, [], _∷_, _++_}
-use Prim.Native.Nat.{ℕ, zero, suc, _+_, _≤_, _<_}
+use Prim.Native.Nat.{ℕ, zero, suc, _+_, _≤_}
 use native.Mathlib.Omega.{arith}
 use Rattle.basics.specs.Choice.{if_then_else_}
-use Rattle.basics.specs.Lists.{endOf}
-use Rattle.basics.proofs.Tests.{and-parts, by-test, if-yes, if-no}
+use Rattle.basics.proofs.Tests.{and-parts, by-test, if-no}
 use Rattle.basics.proofs.Lists.{end-append}
 use Rattle.alphabet.specs.Alphabet.{isLetter}
 use Rattle.graph.specs.Graph.{doubled, isPosition}

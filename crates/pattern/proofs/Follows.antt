@@ -1,6 +1,6 @@
 -- What may follow in a part, by what may follow in the parts that it is made of: a sum of links is some where one of them is.
 -- Assumes nothing.
-use mathlib.Core.Path.{_≡_, ap, ap₂, _∙_}
+use mathlib.Core.Path.{_≡_, ap, _∙_}
 use mathlib.Core.Bool.{Bool, _&&_, _||_}
 use Prim.Native.Nat.{ℕ, _+_}
 use Rattle.basics.specs.Choice.{if_then_else_}

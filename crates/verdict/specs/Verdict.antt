@@ -13,7 +13,7 @@ use Rattle.verdict.specs.Pairs.{Pair, pair, shares, somePair, reached}
 abbrev pub reaches : Graph → Pair → ℕ → ℕ → Bool
 reaches g t c d = reached g (g .positions * g .positions) t c d
 
--- two links or more lead from state v to position a
+-- two links or more lead from state v to position a, whose set holds a letter
 abbrev pub twoLinks : Graph → ℕ → ℕ → Bool
 twoLinks g v a = doubled g v a && shares g a a
 

@@ -35,7 +35,7 @@ use Rattle.verdict.proofs.Pivots.{first-pivot, backTo, Loops, parting-loops}
 use Rattle.verdict.proofs.Shows.{bothLast, parting-steady, loops-runaway}
 use Rattle.search.specs.declared.Goal.{Goal}
 use Rattle.vetting.specs.declared.Vetted.{Vetted}
-use Rattle.nodes.specs.Nodes.{leftOf, rightOf, goes, Step, single, beside}
+use Rattle.nodes.specs.Nodes.{leftOf, rightOf, Step, single, beside}
 use Rattle.search.specs.Search.{isGoal}
 use Rattle.shares.specs.Tables.{Rows, Doubles, Shares, Within, isDoubled, NoneDoubled, held}
 use Rattle.texts.specs.Texts.{letterAt, Showable, written, ShownText, Shown}
