@@ -16,7 +16,7 @@ use Rattle.basics.proofs.Folds.{fold-same}
 use Rattle.bits.specs.Bits.{hasBit, Least}
 use Rattle.bits.proofs.Laws.{has-none, has-high, lt-of-high, member-below}
 use Rattle.bits.proofs.Walk.{any-turn, walk-end, kept}
-use Rattle.frontier.specs.Rows.{cell, stored, arriving, weight, byLinks, newCount, newCredit, Outside, Filled, Stepped}
+use Rattle.frontier.specs.Rows.{cell, stored, arriving, weight, weighted, newCount, newCredit, Outside, Filled, Stepped}
 
 pub fill-start : (to : ℕ) (v : ℕ → ℕ) (xs : List ℕ) → Filled to 0 v xs xs
 fill-start to v xs = record { size = refl; made = λ i e. absurd (false≢true (sym (has-none i) ∙ e)); kept = λ j o. refl }
@@ -87,7 +87,7 @@ module _ (linked : Bool) (more before credits : List ℕ) (from to active holds 
               ∙ ap (λ (b : Bool). hasBit out j || b) (sym (any-turn 61 left t r (h .small) l less (to-be j))) ∙ h .states j;
           counted = subst (Filled to out′ (newCount linked more before active from counts₀) counts₀) (sym ec)
               (fill-if to out out′ t (newCount linked more before active from counts t) (newCount linked more before active from counts₀) (reached before active t) counts₀ counts (h .counted) e here roomC
-              (ap (λ (x : ℕ). min x (2 ^ 63)) (fold-same 0 _+_ (hasBit m) (hasBit m) (byLinks linked more t (cell counts from)) (byLinks linked more t (cell counts₀ from)) 61 (λ i k. refl)
+              (ap (λ (x : ℕ). min x (2 ^ 63)) (fold-same 0 _+_ (hasBit m) (hasBit m) (weighted linked more t (cell counts from)) (weighted linked more t (cell counts₀ from)) 61 (λ i k. refl)
               (λ i k y. ap (λ (x : ℕ). weight linked more i t * x) (h .counted .kept (from + i) (apart i k))))));
           marked = subst (Filled to out′ (newCredit before credits active from best₀) best₀) (sym eb)
               (fill-if to out out′ t (newCredit before credits active from best t) (newCredit before credits active from best₀) (reached before active t) best₀ best (h .marked) e here roomB

@@ -10,7 +10,7 @@ use Rattle.basics.specs.Folds.{sumIf, Less}
 use Rattle.basics.proofs.Folds.{fold-same}
 use Rattle.bits.specs.Bits.{hasBit, Least}
 use Rattle.bits.proofs.Walk.{sum-turn, most-turn, walk-end}
-use Rattle.frontier.specs.Rows.{countOf, mostOf, byLinks}
+use Rattle.frontier.specs.Rows.{countOf, mostOf, weighted}
 
 pub record Gathering (v w : ℕ → ℕ) (members left count most : ℕ) : Type 0 where
   pub small : left < 2 ^ 61
@@ -45,10 +45,10 @@ cut-sum c a x = omega arith
 
 -- a count by the links, where there can be several, and where one leads from each member
 module _ (linked : Bool) (more : List ℕ) (i members : ℕ) (row : ℕ → ℕ) (count : ℕ) where
-  pub by-links : linked ≡ true → count ≡ countOf members (byLinks true more i row) → count ≡ countOf members (byLinks linked more i row)
-  by-links e h = h ∙ ap (λ (l : Bool). countOf members (byLinks l more i row)) (sym e)
+  pub by-weights : linked ≡ true → count ≡ countOf members (weighted true more i row) → count ≡ countOf members (weighted linked more i row)
+  by-weights e h = h ∙ ap (λ (l : Bool). countOf members (weighted l more i row)) (sym e)
 
-  pub one-link : linked ≡ false → count ≡ countOf members row → count ≡ countOf members (byLinks linked more i row)
+  pub one-link : linked ≡ false → count ≡ countOf members row → count ≡ countOf members (weighted linked more i row)
   one-link e h =
-      h ∙ ap (λ (x : ℕ). min x (2 ^ 63)) (fold-same 0 _+_ (hasBit members) (hasBit members) row (byLinks false more i row) 61 (λ u l. refl) (λ u l y. sym (one-mul (row u))))
-      ∙ ap (λ (l : Bool). countOf members (byLinks l more i row)) (sym e)
+      h ∙ ap (λ (x : ℕ). min x (2 ^ 63)) (fold-same 0 _+_ (hasBit members) (hasBit members) row (weighted false more i row) 61 (λ u l. refl) (λ u l y. sym (one-mul (row u))))
+      ∙ ap (λ (l : Bool). countOf members (weighted l more i row)) (sym e)

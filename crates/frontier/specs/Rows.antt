@@ -33,12 +33,12 @@ abbrev pub weight : Bool → List ℕ → ℕ → ℕ → ℕ
 weight linked more u i = if linked then suc (getD more (61 * u + i) 0) else 1
 
 -- the counts of a row, each once for each link to position i
-abbrev pub byLinks : Bool → List ℕ → ℕ → (ℕ → ℕ) → ℕ → ℕ
-byLinks linked more i row u = weight linked more u i * row u
+abbrev pub weighted : Bool → List ℕ → ℕ → (ℕ → ℕ) → ℕ → ℕ
+weighted linked more i row u = weight linked more u i * row u
 
 -- what position i gets: their counts by the links, and their greatest credit with its own, which may wrap
 abbrev pub newCount : Bool → List ℕ → List ℕ → ℕ → ℕ → List ℕ → ℕ → ℕ
-newCount linked more before active from counts i = countOf (arriving before active i) (byLinks linked more i (cell counts from))
+newCount linked more before active from counts i = countOf (arriving before active i) (weighted linked more i (cell counts from))
 
 abbrev pub newCredit : List ℕ → List ℕ → ℕ → ℕ → List ℕ → ℕ → ℕ
 newCredit before credits active from best i = (mostOf (arriving before active i) (cell best from) + getD credits i 0) % 2 ^ 32

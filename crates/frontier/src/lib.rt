@@ -5,7 +5,7 @@ ghost use mathlib.Core.Path.{_≡_};
 ghost use mathlib.Core.Bool.{true};
 ghost use Prim.Native.Nat.{ℕ, suc, _<_, _≤_, _+_, _*_, _%_, _^_, min, max};
 ghost use lib.ListN.{length};
-ghost use Rattle.frontier.specs.Rows.{cell, stored, countOf, mostOf, byLinks, Outside, Stepped};
+ghost use Rattle.frontier.specs.Rows.{cell, stored, countOf, mostOf, weighted, Outside, Stepped};
 
 // One letter on: the row at `to` from the row at `from`, whose possible states are `active`, by a letter that the positions of
 // `holds` hold. A count goes over once for each link: `more` has at 61 * u + i how many lead from state u to position i beyond the
@@ -84,7 +84,7 @@ fn gather_links(
     i: usize,
 ) -> Sum
     requires { ⌜ (members < 2 ^ 61) × (from + 61 ≤ length (now counts)) × (from + 61 ≤ length (now best)) × (3721 ≤ length (now more)) × (i < 61) ⌝ }
-    ensures { λ r. ⌜ (r .count ≡ countOf members (byLinks true (now (more .entry)) i (cell (now (counts .entry)) from)))
+    ensures { λ r. ⌜ (r .count ≡ countOf members (weighted true (now (more .entry)) i (cell (now (counts .entry)) from)))
         × (r .most ≡ mostOf members (cell (now (best .entry)) from)) ⌝ }
 {
     let mut left = members;
@@ -113,7 +113,7 @@ fn gather_for(
     i: usize,
 ) -> Sum
     requires { ⌜ (members < 2 ^ 61) × (from + 61 ≤ length (now counts)) × (from + 61 ≤ length (now best)) × (linked ≡ true → 3721 ≤ length (now more)) × (i < 61) ⌝ }
-    ensures { λ r. ⌜ (r .count ≡ countOf members (byLinks linked (now (more .entry)) i (cell (now (counts .entry)) from)))
+    ensures { λ r. ⌜ (r .count ≡ countOf members (weighted linked (now (more .entry)) i (cell (now (counts .entry)) from)))
         × (r .most ≡ mostOf members (cell (now (best .entry)) from)) ⌝ }
 {
     if linked {
@@ -137,7 +137,7 @@ fn fill(
 )
     requires { ⌜ (members < 2 ^ 61) × (from + 61 ≤ length (now counts)) × (from + 61 ≤ length (now best)) × (at < length (now counts)) × (at < length (now best))
         × (linked ≡ true → 3721 ≤ length (now more)) × (i < 61) ⌝ }
-    ensures { λ _. ⌜ (now (counts .exit) ≡ stored members (now (counts .entry)) at (countOf members (byLinks linked (now (more .entry)) i (cell (now (counts .entry)) from))))
+    ensures { λ _. ⌜ (now (counts .exit) ≡ stored members (now (counts .entry)) at (countOf members (weighted linked (now (more .entry)) i (cell (now (counts .entry)) from))))
         × (now (best .exit) ≡ stored members (now (best .entry)) at ((mostOf members (cell (now (best .entry)) from) + credit) % 2 ^ 32)) ⌝ }
 {
     if members == 0 {

@@ -12,7 +12,7 @@ use borrow.Author.Tests.{leb-true, le-leb, ltb-true, lt-ltb}
 use Rattle.basics.specs.Lists.{endOf}
 use Rattle.basics.proofs.Tests.{and-parts, and-of}
 use Rattle.basics.proofs.Lists.{end-append}
-use Rattle.graph.specs.Graph.{Graph, isPosition, next, Single, step}
+use Rattle.graph.specs.Graph.{Graph, isPosition, next, SingleLinks, step}
 use Rattle.graph.specs.Readings.{Transition, transition, path, readsFrom}
 use Rattle.graph.proofs.Links.{some-of, not-several}
 
@@ -166,7 +166,7 @@ module _ (g : Graph) where
   walk-plain u s c h = (subst (λ (l : List ℕ). Walk g u s l) (sym (path-plain c)) h, takes-plain u s c h)
 
   -- with single links a walk's positions are all there is to it
-  pub takes-single : Single g → (u : ℕ) (r : List Transition) → Takes u r → r ≡ plain (path r)
+  pub takes-single : SingleLinks g → (u : ℕ) (r : List Transition) → Takes u r → r ≡ plain (path r)
   takes-single h u [] k = refl
   takes-single h u (t ∷ r) k =
       let i = t .position in

@@ -40,8 +40,8 @@ abbrev pub doubled : Graph → ℕ → ℕ → Bool
 doubled g u i = several (g .links u i)
 
 -- no two states have more than one link between them
-abbrev pub Single : Graph → Type 0
-Single g = (u i : ℕ) → doubled g u i ≡ false
+abbrev pub SingleLinks : Graph → Type 0
+SingleLinks g = (u i : ℕ) → doubled g u i ≡ false
 
 -- position i may come next at state u, and its set holds the letter b
 abbrev pub step : Graph → ℕ → ℕ → ℕ → Bool

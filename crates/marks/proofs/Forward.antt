@@ -23,7 +23,7 @@ use Rattle.bits.proofs.Walk.{sum-turn, most-turn, walk-end}
 use Rattle.graph.specs.Graph.{Graph, some, isPosition, next, step, Bounded}
 use Rattle.graph.specs.Readings.{countFrom, readings, added, bestFrom}
 use Rattle.graph.proofs.Walks.{position-of}
-use Rattle.frontier.specs.Rows.{cell, countOf, mostOf, arriving, weight, byLinks, Stepped}
+use Rattle.frontier.specs.Rows.{cell, countOf, mostOf, arriving, weight, weighted, Stepped}
 use Rattle.marks.specs.Answers.{Row, linksOfTables, Answered}
 use Rattle.marks.proofs.Values.{sum-cut, sum-times, added-max, added-twice, most-less, most-added}
 
@@ -113,8 +113,8 @@ module _ (g : Graph) (bounded : Bounded g) (b : ℕ) (linked : Bool) (more befor
   follows u i = ap some (links u i) ∙ some-tables (hasBit (getD before i 0) u) linked (getD more (61 * u + i) 0)
 
   -- a count by the links, times what is to come
-  by-links : (i u y : ℕ) → here i u ≡ true → byLinks linked more i (cell counts from) u * y ≡ cell counts from u * (g .links u i * y)
-  by-links i u y e =
+  by-weights : (i u y : ℕ) → here i u ≡ true → weighted linked more i (cell counts from) u * y ≡ cell counts from u * (g .links u i * y)
+  by-weights i u y e =
       let w = weight linked more u i in
       let x = cell counts from u in
       ap (λ (z : ℕ). z * y) (mul-comm w x) ∙ mul-assoc x w y ∙ ap (λ (z : ℕ). x * (z * y)) (sym (links u i ∙ if-yes w 0 (hasBit (getD before i 0) u) (here-parts i u e .0)))
@@ -149,10 +149,10 @@ module _ (g : Graph) (bounded : Bounded g) (b : ℕ) (linked : Bool) (more befor
     counted = λ t.
         sum-cut (2 ^ 63) (hasBit r) (λ i. cell counts′ to i * countFrom g i t) (λ i. sumIf (here i) (λ u. cell counts from u * (g .links u i * countFrom g i t)) 61) 61
         (λ i e.
-        sum-times (2 ^ 63) (here i) (byLinks linked more i (cell counts from)) 61 (cell counts′ to i) (countFrom g i t) (st .counted .made i e)
+        sum-times (2 ^ 63) (here i) (weighted linked more i (cell counts from)) 61 (cell counts′ to i) (countFrom g i t) (st .counted .made i e)
         ∙ ap (λ (x : ℕ). min x (2 ^ 63))
-        (fold-same 0 _+_ (here i) (here i) (λ u. byLinks linked more i (cell counts from) u * countFrom g i t) (λ u. cell counts from u * (g .links u i * countFrom g i t)) 61 (λ u l. refl)
-        (λ u l. by-links i u (countFrom g i t))))
+        (fold-same 0 _+_ (here i) (here i) (λ u. weighted linked more i (cell counts from) u * countFrom g i t) (λ u. cell counts from u * (g .links u i * countFrom g i t)) 61 (λ u l. refl)
+        (λ u l. by-weights i u (countFrom g i t))))
         ∙ ap (λ (x : ℕ). min x (2 ^ 63))
         (sym (onward g bounded b before active holds r follows held (st .states) 0 _+_ add-zero add-comm add-assoc (λ u x. cell counts from u * x)
         (λ u. mul-zero (cell counts from u)) (λ u. mul-add (cell counts from u)) (λ u i. g .links u i * countFrom g i t)))

@@ -12,7 +12,7 @@ use Rattle.basics.proofs.Tests.{and-parts}
 use Rattle.bits.specs.Bits.{hasBit}
 use Rattle.letters.specs.LetterSet.{hasLetter}
 use Rattle.letters.specs.LetterSet.{setAt}
-use Rattle.graph.specs.Graph.{several, Bounded, Single}
+use Rattle.graph.specs.Graph.{several, Bounded, SingleLinks}
 use Rattle.graph.specs.Built.{graphOfBuilt}
 use Rattle.graph.specs.declared.Built.{Built}
 use Rattle.graph.proofs.Bounds.{below}
@@ -37,7 +37,7 @@ module _ (b : Built) (more : List ℕ) (bounded : Bounded (graphOfBuilt b more))
       let few = bounded .few in
       omega arith)
 
-  pub tables-show : (b .doubled ≡ false → Single (graphOfBuilt b more)) → (before : List ℕ) → Columns (λ u i. hasBit (getD (b .follow) u 0) i) (b .positions + 1) before
+  pub tables-show : (b .doubled ≡ false → SingleLinks (graphOfBuilt b more)) → (before : List ℕ) → Columns (λ u i. hasBit (getD (b .follow) u 0) i) (b .positions + 1) before
       → graphOfTables (b .positions) holders before (b .lasts) (b .credits) (b .doubled) more ≡ graphOfBuilt b more
   tables-show single before turned = λ k. record {
     positions = b .positions;

@@ -5,7 +5,7 @@ ghost use mathlib.Core.Path.{_≡_};
 ghost use mathlib.Core.Bool.{true, false};
 ghost use Prim.Native.Nat.{ℕ, _<_, _≤_, _^_};
 ghost use lib.ListN.{length, getD};
-ghost use Rattle.graph.specs.Graph.{Bounded, Single};
+ghost use Rattle.graph.specs.Graph.{Bounded, SingleLinks};
 ghost use Rattle.graph.specs.Built.{graphOfBuilt};
 ghost use Rattle.marks.specs.Answers.{Answered, TablesAnswered};
 
@@ -20,7 +20,7 @@ pub struct Marked {
 // The number of readings of an answer and its mark. A byte that is no letter is held by no position. `more` is the table of the
 // links beyond the first; it is read only where `b.doubled` says that there is one.
 pub fn mark(b: Built, more: &[u8], answer: &[u8]) -> Marked
-    requires { ⌜ Bounded (graphOfBuilt b (now more)) × (b .doubled ≡ false → Single (graphOfBuilt b (now more))) × (b .doubled ≡ true → length (now more) ≡ 3721) × (length (now answer) ≤ 4096) ⌝ }
+    requires { ⌜ Bounded (graphOfBuilt b (now more)) × (b .doubled ≡ false → SingleLinks (graphOfBuilt b (now more))) × (b .doubled ≡ true → length (now more) ≡ 3721) × (length (now answer) ≤ 4096) ⌝ }
     ensures { λ r. ⌜ (r .refusal ≡ 0) × Answered (graphOfBuilt b (now (more .entry))) (now (answer .entry)) (r .count) (r .mark) ⌝ }
 {
     let before = columns::states_before(&b.follow, b.positions);

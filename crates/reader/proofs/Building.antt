@@ -20,7 +20,7 @@ use Rattle.letters.specs.LetterSet.{hasLetter, setAt}
 use Rattle.letters.specs.declared.LetterSet.{LetterSet}
 use Rattle.set_table.specs.Table.{setIn}
 use Rattle.letters.proofs.Sets.{all-empty}
-use Rattle.graph.specs.Graph.{some, noGraph, Bounded, Single}
+use Rattle.graph.specs.Graph.{some, noGraph, Bounded, SingleLinks}
 use Rattle.graph.specs.Built.{graphOfBuilt}
 use Rattle.graph.proofs.Links.{of-some, none-of, built-doubled}
 use Rattle.graph.specs.declared.Built.{Built}
@@ -61,7 +61,7 @@ guard a true h = and-true a ∙ h refl
 guard a false h = and-false a
 
 -- where there are none beyond the first, no two states have more than one link
-pub single-shown : (b : Built) (more : List ℕ) → NoneCounted more → Single (graphOfBuilt b more)
+pub single-shown : (b : Built) (more : List ℕ) → NoneCounted more → SingleLinks (graphOfBuilt b more)
 single-shown b more e u i =
     built-doubled b more u i
     ∙ ap (λ (n : ℕ). hasBit (getD (b .follow) u 0) i && some n) (e (61 * u + i))

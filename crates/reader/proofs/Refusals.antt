@@ -12,7 +12,7 @@ use Rattle.basics.specs.Choice.{if_then_else_}
 use Rattle.basics.specs.Lists.{Each}
 use Rattle.basics.proofs.Tests.{and-when, same-test, if-yes, if-no}
 use Rattle.alphabet.specs.Alphabet.{allLetters}
-use Rattle.graph.specs.Graph.{noGraph, Bounded, Single}
+use Rattle.graph.specs.Graph.{noGraph, Bounded, SingleLinks}
 use Rattle.graph.specs.Built.{graphOfBuilt}
 use Rattle.graph.proofs.Bounds.{none-bounded}
 use Rattle.pattern.specs.Grammar.{readPattern, isPattern, patternPart}
@@ -67,7 +67,7 @@ module _ (s : List ℕ) where
         refusal = w .refusal ∙ sym is;
         graph = λ c. w .graph more ∙ sym none;
         bounded = λ c. subst Bounded (sym (w .graph more)) none-bounded;
-        single = λ d. subst Single (sym (w .graph more)) (λ u i. refl);
+        single = λ d. subst SingleLinks (sym (w .graph more)) (λ u i. refl);
       }
 
   -- none applies
@@ -75,7 +75,7 @@ module _ (s : List ℕ) where
   no-refusal h = first-none 3 tests h
 
   pub accepts : (more : List ℕ) (r : ReadPattern) → Passes 6 → r .refusal ≡ 0 → (Counted (r .built) more → graphOfBuilt (r .built) more ≡ patternGraph s) → Bounded (patternGraph s)
-      → (r .built .doubled ≡ false → Single (graphOfBuilt (r .built) more)) → Reads s more r
+      → (r .built .doubled ≡ false → SingleLinks (graphOfBuilt (r .built) more)) → Reads s more r
   accepts more r h z same bounds single =
       let is = no-refusal h in
       record {

@@ -4,7 +4,7 @@ use mathlib.Core.Path.{_≡_}
 use mathlib.Core.Bool.{true, false}
 use mathlib.Core.List.{List}
 use Prim.Native.Nat.{ℕ, _≤_}
-use Rattle.graph.specs.Graph.{Bounded, Single, noGraph}
+use Rattle.graph.specs.Graph.{Bounded, SingleLinks, noGraph}
 use Rattle.graph.specs.Built.{graphOfBuilt}
 use Rattle.graph.specs.declared.Built.{Built}
 use Rattle.pattern.specs.Parts.{Part}
@@ -24,7 +24,7 @@ pub record Reads (s more : List ℕ) (r : ReadPattern) : Type 0 where
   pub refusal : r .refusal ≡ patternRefusal s
   pub graph : Counted (r .built) more → graphOfBuilt (r .built) more ≡ builtGraph s
   pub bounded : Counted (r .built) more → Bounded (graphOfBuilt (r .built) more)
-  pub single : r .built .doubled ≡ false → Single (graphOfBuilt (r .built) more)
+  pub single : r .built .doubled ≡ false → SingleLinks (graphOfBuilt (r .built) more)
 
 -- the refusal k, and nothing built, whatever the links beyond the first
 pub record Refuses (k : ℕ) (r : ReadPattern) : Type 0 where

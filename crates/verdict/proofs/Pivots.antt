@@ -13,7 +13,7 @@ use Rattle.basics.specs.Lists.{endOf}
 use Rattle.basics.proofs.Tests.{and-parts, and-of, by-test}
 use Rattle.basics.proofs.Folds.{least, list-first, list-none}
 use Rattle.alphabet.specs.Alphabet.{allLetters}
-use Rattle.graph.specs.Graph.{Graph, isPosition, doubled, Single}
+use Rattle.graph.specs.Graph.{Graph, isPosition, doubled, SingleLinks}
 use Rattle.graph.specs.Readings.{Transition, transition, path}
 use Rattle.graph.proofs.Links.{several-of, several-some}
 use Rattle.graph.proofs.Walks.{position-of, plain, path-plain, Goes, walk-plain}
@@ -122,7 +122,7 @@ module _ (g : Graph) (trim : Trim g) where
       ∙ path-plain d
 
   -- links are single: two of them would be two loops, on by either and back by the same way
-  pub no-doubled : firstPivot g ≡ 0 → Single g
+  pub no-doubled : firstPivot g ≡ 0 → SingleLinks g
   no-doubled h u i = by-test (doubled g u i) (λ e. absurd (two (trim .looped u i e) e)) (λ e. e)
     where
       two : (isPosition g u ≡ true) × (isPosition g i ≡ true) × Looped g u i → doubled g u i ≡ true → ⊥

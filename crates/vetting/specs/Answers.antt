@@ -4,7 +4,7 @@ use mathlib.Core.Bool.{false}
 use mathlib.Core.List.{List}
 use Prim.Native.Nat.{ℕ}
 use Rattle.graph.specs.declared.Built.{Built}
-use Rattle.graph.specs.Graph.{Graph, Bounded, Single}
+use Rattle.graph.specs.Graph.{Graph, Bounded, SingleLinks}
 use Rattle.graph.specs.Built.{graphOfBuilt}
 use Rattle.graph.specs.Trim.{Trim}
 use Rattle.verdict.specs.Answers.{Vets}
@@ -14,7 +14,7 @@ use Rattle.vetting.specs.declared.Vetted.{Vetted}
 pub record Vettable (b : Built) (more : List ℕ) : Type 0 where
   pub bounded : Bounded (graphOfBuilt b more)
   pub trim : Trim (graphOfBuilt b more)
-  pub single : b .doubled ≡ false → Single (graphOfBuilt b more)
+  pub single : b .doubled ≡ false → SingleLinks (graphOfBuilt b more)
 
 -- a result with no refusal: the number of positions, a verdict and three lengths
 abbrev pub vetted : ℕ → ℕ → ℕ → ℕ → ℕ → Vetted

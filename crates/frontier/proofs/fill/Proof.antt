@@ -2,7 +2,7 @@
 use mathlib.Core.Path.{ap, _∙_}
 use Prim.Native.Nat.{ℕ, _+_, _%_, _^_}
 use borrow.Author.Needs.{needs}
-use Rattle.frontier.specs.Rows.{cell, countOf, byLinks}
+use Rattle.frontier.specs.Rows.{cell, countOf, weighted}
 use Rattle.frontier.proofs.Fills.{stored-none, stored-some}
 use Rattle.frontier.proofs.fill.Statement.{statement}
 use Rattle.frontier.proofs.fill.Tie as tie
@@ -41,7 +41,7 @@ returns-2 c =
     let a = c .before .before .before .before .before .before .before .before .args in
     let some = c .before .before .before .before .if1 .left in
     let g = c .before .gather-for .ensures in (
-      stored-some (a .members) (a .at) _ (countOf (a .members) (byLinks (a .linked) (a .more .now) (a .i) (cell (a .counts .now) (a .from)))) (a .counts .now) some (g .0),
+      stored-some (a .members) (a .at) _ (countOf (a .members) (weighted (a .linked) (a .more .now) (a .i) (cell (a .counts .now) (a .from)))) (a .counts .now) some (g .0),
       stored-some (a .members) (a .at) _ _ (a .best .now) some (c .wrapping-add-u32 .ensures ∙ ap (λ (x : ℕ). (x + a .credit) % 2 ^ 32) (g .1)),
     )
 

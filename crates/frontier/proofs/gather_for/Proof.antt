@@ -1,7 +1,7 @@
 -- By whether there can be more links than one. Assumes nothing.
 use borrow.Author.Needs.{needs}
 use Rattle.frontier.specs.Rows.{cell}
-use Rattle.frontier.proofs.Gathers.{by-links, one-link}
+use Rattle.frontier.proofs.Gathers.{by-weights, one-link}
 use Rattle.frontier.proofs.gather_for.Statement.{statement}
 use Rattle.frontier.proofs.gather_for.Tie as tie
 
@@ -12,7 +12,7 @@ returns : tie.Need-returns
 returns c =
     let a = c .before .before .before .before .before .args in
     let r = c .gather-links in
-    (by-links (a .linked) (a .more .now) (a .i) (a .members) (cell (a .counts .now) (a .from)) (r .result .count) (c .before .if1 .taken) (r .ensures .0), r .ensures .1)
+    (by-weights (a .linked) (a .more .now) (a .i) (a .members) (cell (a .counts .now) (a .from)) (r .result .count) (c .before .if1 .taken) (r .ensures .0), r .ensures .1)
 
 gather-requires : tie.Need-gather-requires
 gather-requires c κs = search needs

@@ -4,13 +4,13 @@ use mathlib.Core.Bool.{true}
 use Prim.Native.Nat.{ℕ, _+_, _^_, min}
 use native.Mathlib.Omega.{arith}
 use Rattle.bits.proofs.Laws.{member-below}
-use Rattle.frontier.specs.Rows.{cell, byLinks}
+use Rattle.frontier.specs.Rows.{cell, weighted}
 use Rattle.frontier.proofs.Gathers.{Gathering, gathering-start, gathering-on, gathering-end, cut-sum}
 use Rattle.frontier.proofs.gather_links.Statement.{statement}
 use Rattle.frontier.proofs.gather_links.Tie as tie
 
 abbrev Inv-loop : tie.InvT-loop
-Inv-loop counts best from members more i left₀ count₀ most₀ left count most = Gathering (byLinks true more i (cell counts from)) (cell best from) members left count most
+Inv-loop counts best from members more i left₀ count₀ most₀ left count most = Gathering (weighted true more i (cell counts from)) (cell best from) members left count most
 
 abbrev μ-loop : tie.MeasureT-loop
 μ-loop counts best from members more i left₀ count₀ most₀ left count most = left
@@ -18,7 +18,7 @@ abbrev μ-loop : tie.MeasureT-loop
 loop-holds : tie.Need-loop-holds Inv-loop μ-loop
 loop-holds c =
     let a = c .before .before .before .args in
-    gathering-start (byLinks true (a .more .now) (a .i) (cell (a .counts .now) (a .from))) (cell (a .best .now) (a .from)) (a .members) (c .before .before .before .pre .0)
+    gathering-start (weighted true (a .more .now) (a .i) (cell (a .counts .now) (a .from))) (cell (a .best .now) (a .from)) (a .members) (c .before .before .before .pre .0)
 
 lowest-requires : tie.Need-lowest-requires Inv-loop μ-loop
 lowest-requires c κs = omega (arith, c .loop-test .taken)
@@ -76,7 +76,7 @@ loop-again c =
     let a = c .before .before .before .before .before .before .before .before .before .before .before .before .before .args in
     let at = c .before .before .before .before .before .before .before .before .before .loop in
     let u = c .before .before .before .before .before .before .before .lowest in
-    let row = byLinks true (a .more .now) (a .i) (cell (a .counts .now) (a .from)) in
+    let row = weighted true (a .more .now) (a .i) (cell (a .counts .now) (a .from)) in
     gathering-on row (cell (a .best .now) (a .from)) (a .members) (at .left) (at .count) (at .most) (at .inv) (u .result) (c .rest .result) (c .before .before .before .plus .result) (c .before .greater .result)
     (u .ensures .1) (c .rest .ensures .1 (u .result) (u .ensures .1)) (c .rest .ensures .0)
     (c .before .before .before .plus .ensures ∙ ap (λ (x : ℕ). min (at .count + x) (2 ^ 63)) (c .before .before .before .before .times .ensures) ∙ cut-sum (2 ^ 63) (at .count) (row (u .result)))
@@ -86,7 +86,7 @@ returns : tie.Need-returns Inv-loop μ-loop
 returns c =
     let a = c .before .before .before .before .before .args in
     let at = c .before .loop in
-    gathering-end (byLinks true (a .more .now) (a .i) (cell (a .counts .now) (a .from))) (cell (a .best .now) (a .from)) (a .members) (at .left) (at .count) (at .most) (at .inv) (c .loop-test .left)
+    gathering-end (weighted true (a .more .now) (a .i) (cell (a .counts .now) (a .from))) (cell (a .best .now) (a .from)) (a .members) (at .left) (at .count) (at .most) (at .inv) (c .loop-test .left)
 
 pub gather-links-spec : {M : Type 1} → statement M
 gather-links-spec =
