@@ -60,9 +60,9 @@ module _ (s a : List ℕ) where
         mark = h .2 ∙ sym (if-no (mark (patternGraph s) a) 0 (eqb (markRefusal s a) 0) n);
       }
 
-  pub says-mark : (g : Graph) (r : Marked) → g ≡ builtGraph s → patternRefusal s ≡ 0 → markRefusal s a ≡ 0 → (r .refusal ≡ 0) × Answered g a (r .count) (r .mark) → MarkSays s a r
-  says-mark g r e p f h =
-      let w = subst (λ (x : Graph). Answered x a (r .count) (r .mark)) (e ∙ built-graph s p) (h .1) in
+  pub says-mark : (g : Graph) (r : Marked) → g ≡ builtGraph s → markRefusal s a ≡ 0 → (r .refusal ≡ 0) × Answered g a (r .count) (r .mark) → MarkSays s a r
+  says-mark g r e f h =
+      let w = subst (λ (x : Graph). Answered x a (r .count) (r .mark)) (e ∙ built-graph s (pattern-accepted f)) (h .1) in
       let y : eqb (markRefusal s a) 0 ≡ true = eq-eqb (markRefusal s a) 0 f in
       record {
         refusal = h .0 ∙ sym f;

@@ -23,8 +23,10 @@ pub fn mark(b: Built, more: &[u8], answer: &[u8]) -> Marked
     requires { ⌜ Bounded (graphOfBuilt b (now more)) × (b .doubled ≡ false → SingleLinks (graphOfBuilt b (now more))) × (b .doubled ≡ true → length (now more) ≡ 3721) × (length (now answer) ≤ 4096) ⌝ }
     ensures { λ r. ⌜ (r .refusal ≡ 0) × Answered (graphOfBuilt b (now (more .entry))) (now (answer .entry)) (r .count) (r .mark) ⌝ }
 {
-    let before = columns::states_before(&b.follow, b.positions);
-    let holders = columns::holders_of(b.letters, b.positions);
+    let follow = b.follow;
+    let before = columns::states_before(&follow, b.positions);
+    let letters = b.letters;
+    let holders = columns::holders_of(letters, b.positions);
     let credits = b.credits;
     let mut counts = [0u64; 122];
     let mut best = [0u32; 122];

@@ -43,10 +43,7 @@ pub fn read(s: &[u8], more: &mut [u8]) -> ReadPattern
     if part.n > 60 {
         return refused(8);
     }
-    ReadPattern {
-        refusal: 0,
-        built: built(p, &sets, credits),
-    }
+    accepted(p, &sets, credits)
 }
 
 // A refusal: nothing is built.
@@ -71,22 +68,26 @@ fn refused(refusal: u8) -> ReadPattern
     }
 }
 
-// The built pattern, of its links and of the tables. The state 0, before any letter, gets its row, the firsts, and is a last where
-// the pattern can be empty.
-fn built(p: ParsedRows, sets: &[u64], credits: [u8; 61]) -> Built
+// A pattern that nothing refuses, built of its links and of the tables. The state 0, before any letter, gets its row, the firsts, and
+// is a last where the pattern can be empty.
+fn accepted(p: ParsedRows, sets: &[u64], credits: [u8; 61]) -> ReadPattern
     requires { ⌜ length (now sets) ≡ tableSize ⌝ }
-    ensures { λ r. ⌜ Builds p (now (sets .entry)) credits r ⌝ }
+    ensures { λ r. ⌜ (r .refusal ≡ 0) × Builds p (now (sets .entry)) credits (r .built) ⌝ }
 {
     let part = p.part;
     let mut follow = p.rows;
     follow[0] = part.firsts;
     let letters = set_table::sets(sets);
-    Built {
+    let built = Built {
         positions: part.n,
         follow: follow,
         doubled: part.doubled,
         lasts: bits::with_if(part.lasts, 0, part.empty),
         letters: letters,
         credits: credits,
+    };
+    ReadPattern {
+        refusal: 0,
+        built: built,
     }
 }

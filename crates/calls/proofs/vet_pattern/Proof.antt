@@ -1,13 +1,11 @@
 -- Each refusal by its law, with memory as it was; otherwise what the search shows of the graph that was built, which is the
--- pattern's and trim, if its links are single; if not, they are counted. Assumes nothing.
+-- pattern's and trim. Assumes nothing.
 use mathlib.Core.Path.{_≡_, sym, _∙_}
-use mathlib.Core.Bool.{true, true≢false}
 use native.Mathlib.Omega.{arith}
 use lib.ListN.{length}
 use borrow.Author.Needs.{needs}
 use Rattle.basics.proofs.Lists.{zeros}
 use Rattle.graph.specs.Built.{graphOfBuilt}
-use Rattle.pattern.specs.Refusals.{patternRefusal}
 use Rattle.calls.proofs.Vetting.{little-evidence, little-scratch, by-pattern, says-refusal, says-verdict, trim-built, answers}
 use Rattle.calls.proofs.vet_pattern.Statement.{statement}
 use Rattle.calls.proofs.vet_pattern.Tie as tie
@@ -34,7 +32,11 @@ slice-aggregate-read : tie.Need-slice-aggregate-read
 slice-aggregate-read c = search needs
 
 read-requires : tie.Need-read-requires
-read-requires c κs = zeros 1
+read-requires c κs = zeros 3721
+
+-- there is room for the links beyond the first
+room : (c : tie.After-read) → length (c .read .last .1 .0) ≡ 3721
+room c = search needs
 
 no-verdict-requires-3 : tie.Need-no-verdict-requires-3
 no-verdict-requires-3 c κs = search needs
@@ -47,14 +49,16 @@ returns-3 c =
     says-refusal (p .result .refusal) (a .pattern .now) (a .evidence .now) (a .scratch .now) (c .no-verdict3 .result) (c .before .if3 .taken)
     (by-pattern (a .pattern .now) (length (a .evidence .now)) (length (a .scratch .now)) (q .before .before .before .if1 .left) (q .before .before .if2 .left) ∙ sym (p .ensures .refusal)) (c .no-verdict3 .ensures)
 
--- where nothing is refused
-none : (c : tie.Else3) → patternRefusal (c .before .before .before .before .before .before .before .before .before .before .args .pattern .now) ≡ 0
-none c = sym (c .before .before .before .read .ensures .refusal) ∙ c .if3 .left
+slice-aggregate-vet : tie.Need-slice-aggregate-vet
+slice-aggregate-vet c = search needs
 
-vet-links-requires : tie.Need-vet-links-requires
-vet-links-requires c κs =
-    let d = c .before .before .before .before in
-    (none d, omega (arith, d .before .before .before .before .before .before .if1 .left), omega (arith, d .before .before .before .before .before .if2 .left))
+vet-requires : tie.Need-vet-requires
+vet-requires c κs =
+    let q = c .before .before .before .before .before .before .before in
+    let a = q .before .before .before .before .before .before .before .args in
+    let p = q .read in
+    let f = sym (p .ensures .refusal) ∙ c .before .before .before .before .if3 .left in
+    (record { bounded = p .ensures .bounded (λ e. room q); trim = trim-built (a .pattern .now) _ (p .ensures .graph (λ e. room q)) f; single = p .ensures .single }, (λ e. room q), omega arith, omega arith)
 
 same-length : tie.Need-same-length
 same-length c = search needs
@@ -63,39 +67,17 @@ same-length-2 : tie.Need-same-length-2
 same-length-2 c = search needs
 
 returns-4 : tie.Need-returns-4
-returns-4 c = search needs
-
-slice-aggregate-vet : tie.Need-slice-aggregate-vet
-slice-aggregate-vet c = search needs
-
--- the table, which has no room, does
-counted : (c : tie.Else4) → c .before .before .before .before .before .read .result .built .doubled ≡ true → length (c .before .before .before .before .before .read .last .1 .0) ≡ 3721
-counted c e = absurd (true≢false (sym e ∙ c .if4 .left))
-
-vet-requires : tie.Need-vet-requires
-vet-requires c κs =
-    let d = c .before .before .before in
-    let q = d .before .before .before .before .before in
-    let p = q .read .ensures in
-    (record { bounded = p .bounded (counted d); trim = trim-built (q .before .before .before .before .before .before .before .args .pattern .now) _ (p .graph (counted d)) (none (d .before .before)); single = p .single }, counted d, omega (arith, q .before .before .before .if1 .left), omega (arith, q .before .before .if2 .left))
-
-same-length-3 : tie.Need-same-length-3
-same-length-3 c = search needs
-
-same-length-4 : tie.Need-same-length-4
-same-length-4 c = search needs
-
-returns-5 : tie.Need-returns-5
-returns-5 c =
-    let v = c .before .before .before .before .vet in
-    let d = c .before .before .before .before .before .before .before .before in
-    let q = d .before .before .before .before .before in
+returns-4 c =
+    let w = c .before .before .before .before in
+    let v = w .vet in
+    let q = w .before .before .before .before .before .before .before .before in
     let a = q .before .before .before .before .before .before .before .args in
-    let f = none (d .before .before) in
+    let p = q .read in
+    let f = sym (p .ensures .refusal) ∙ w .before .before .before .before .before .if3 .left in
     let l : length (v .last .1 .1 .1 .0) ≡ length (a .scratch .now) = search needs in
     says-verdict (a .pattern .now) (a .evidence .now) (v .last .1 .1 .0) (a .scratch .now) (v .last .1 .1 .1 .0) (v .result)
     (by-pattern (a .pattern .now) (length (a .evidence .now)) (length (a .scratch .now)) (q .before .before .before .if1 .left) (q .before .before .if2 .left) ∙ f)
-    (answers (a .pattern .now) (a .evidence .now) (v .last .1 .1 .0) (a .scratch .now) (v .last .1 .1 .1 .0) (graphOfBuilt (q .read .result .built) (q .read .last .1 .0)) (v .result) (q .read .ensures .graph (counted d)) f (v .ensures) l)
+    (answers (a .pattern .now) (a .evidence .now) (v .last .1 .1 .0) (a .scratch .now) (v .last .1 .1 .1 .0) (graphOfBuilt (p .result .built) (p .last .1 .0)) (v .result) (p .ensures .graph (λ e. room q)) f (v .ensures) l)
 
 pub vet-pattern-spec : {M : Type 1} → statement M
 vet-pattern-spec =
@@ -109,12 +91,8 @@ vet-pattern-spec =
     read-requires
     no-verdict-requires-3
     returns-3
-    vet-links-requires
-    same-length
-    same-length-2
-    returns-4
     slice-aggregate-vet
     vet-requires
-    same-length-3
-    same-length-4
-    returns-5)
+    same-length
+    same-length-2
+    returns-4)

@@ -16,7 +16,7 @@ use Rattle.marks.proofs.mark.Tie as tie
 states-before-requires : tie.Need-states-before-requires
 states-before-requires c κs =
     let s = c .before .before .before .before in
-    let b = s .args .t1 in
+    let b = s .args .b in
     (s .pre .0 .few, λ u. let f : Fits w64 (getD (b .follow) u 0) = search needs in row-below b (s .args .more .now) (s .pre .0) u (f .fits))
 
 holders-of-requires : tie.Need-holders-of-requires
@@ -33,12 +33,12 @@ run-requires c κs =
     let s = c .before .before .before .before .before .before .before .before .before .before .before .before .before in
     let holders = c .before .before .before .before .before .before .holders-of in
     let fits : (x : ℕ) → Fits w64 (getD (holders .result) x 0) = λ x. search needs in
-    (omega arith, omega arith, s .pre .3, (λ x. holders-low (s .args .t1) (s .args .more .now) (s .pre .0) (holders .result) (holders .ensures) x (fits x .fits)), omega (arith, s .pre .2))
+    (omega arith, omega arith, s .pre .3, (λ x. holders-low (s .args .b) (s .args .more .now) (s .pre .0) (holders .result) (holders .ensures) x (fits x .fits)), omega (arith, s .pre .2))
 
 returns : tie.Need-returns
 returns c =
     let s = c .before .before .before .before .before .before .before .before .before .before .before .before .before .before .before .before in
-    let b = s .args .t1 in
+    let b = s .args .b in
     let r = c .before .before .run in
     let holders = c .before .before .before .before .before .before .before .before .before .holders-of in
     let before = c .before .before .before .before .before .before .before .before .before .before .before .states-before in

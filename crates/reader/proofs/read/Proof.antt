@@ -145,11 +145,11 @@ returns-6 c =
     let count = parsed is .count in
     refuses s 5 _ (c .refused6 .result) (passes-5 (c .before .before .before)) (lt-ltb 60 (positions (patternPart s)) (omega (arith, c .before .if6 .taken))) (c .refused6 .ensures)
 
-slice-aggregate-built : tie.Need-slice-aggregate-built
-slice-aggregate-built c = search needs
+slice-aggregate-accepted : tie.Need-slice-aggregate-accepted
+slice-aggregate-accepted c = search needs
 
-built-requires : tie.Need-built-requires
-built-requires c κs = search needs
+accepted-requires : tie.Need-accepted-requires
+accepted-requires c κs = search needs
 
 same-length-5 : tie.Need-same-length-5
 same-length-5 c = search needs
@@ -161,9 +161,9 @@ returns-7 c =
     let w = parsed is in
     let l = few (c .before .before) in
     let passes = passes-6 (c .before .before) in
-    let made = c .built .ensures in
-    accepts s _ _ passes refl (λ k. made .graph (patternPart s) _ w l (links-few s (no-refusal s passes)) k) (stored-bounded (patternPart s) _ _ (w .stored) l)
-    (λ d. single-shown (c .built .result) (is .before .before .before .before .before .before .before .before .parse .last .1 .1 .1 .0) (w .none (sym (made .doubled) ∙ d)))
+    let made = c .accepted .ensures .1 in
+    accepts s _ _ passes (c .accepted .ensures .0) (λ k. made .graph (patternPart s) _ w l (links-few s (no-refusal s passes)) k) (stored-bounded (patternPart s) _ _ (w .stored) l)
+    (λ d. single-shown (c .accepted .result .built) (is .before .before .before .before .before .before .before .before .parse .last .1 .1 .1 .0) (w .none (sym (made .doubled) ∙ d)))
 
 pub read-spec : {M : Type 1} → statement M
 read-spec =
@@ -190,7 +190,7 @@ read-spec =
     refused-requires-6
     same-length-4
     returns-6
-    slice-aggregate-built
-    built-requires
+    slice-aggregate-accepted
+    accepted-requires
     same-length-5
     returns-7)

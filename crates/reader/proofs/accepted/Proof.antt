@@ -5,8 +5,8 @@ use native.Mathlib.Omega.{arith}
 use lib.ListN.{length}
 use borrow.Author.Needs.{needs}
 use Rattle.reader.proofs.Building.{built-shown}
-use Rattle.reader.proofs.built.Statement.{statement}
-use Rattle.reader.proofs.built.Tie as tie
+use Rattle.reader.proofs.accepted.Statement.{statement}
+use Rattle.reader.proofs.accepted.Tie as tie
 
 array-write-follow : tie.Need-array-write-follow
 array-write-follow c = search needs
@@ -20,11 +20,13 @@ with-if-requires c κs = search needs
 returns : tie.Need-returns
 returns c =
     let start = c .before .before .before .before .before .args in
-    let rows : length (start .p .rows) ≡ 61 = search needs in
-    record {
-      graph = built-shown (start .p) (start .sets .now) (start .credits) (c .before .sets .result) (c .with-if .result) (omega arith) (c .before .sets .ensures) (c .with-if .ensures);
-      doubled = refl;
-    }
+    let rows : length (start .p .rows) ≡ 61 = search needs in (
+      refl,
+      record {
+        graph = built-shown (start .p) (start .sets .now) (start .credits) (c .before .sets .result) (c .with-if .result) (omega arith) (c .before .sets .ensures) (c .with-if .ensures);
+        doubled = refl;
+      },
+    )
 
-pub built-spec : {M : Type 1} → statement M
-built-spec = tie.close (tie.spec array-write-follow sets-requires with-if-requires returns)
+pub accepted-spec : {M : Type 1} → statement M
+accepted-spec = tie.close (tie.spec array-write-follow sets-requires with-if-requires returns)
