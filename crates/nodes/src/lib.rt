@@ -11,37 +11,48 @@ ghost use Rattle.nodes.specs.Nodes.{IsNode, pack, RowOf, PartnersOf, Fin
 // Stands for no node.
 pub const NONE: usize = 4096;
 
-// A node one step on from x that is not taken up. Where x is no node there is none.
+// A node, or NONE, and what is left to look at: a pair that is not taken up has its first path at a position of `left`.
+pub struct Next {
+    pub node: usize,
+    pub left: u64,
+}
+
+// A node one step on from x that is not taken up. Where x is no node there is none. Of pairs, only those whose first path comes to a
+// position of `left` are looked at.
 pub fn next_new<'a>(
     follow: &'a [u64; 61],
     doubles: &'a [u64; 61],
     shares: &'a [u64; 61],
     seen: &'a [u64; 61],
     alone: u64,
+    left: u64,
     x: usize,
-) -> usize
-    ensures { λ r. ⌜ Finds (now (follow .entry)) (now (doubles .entry)) (now (shares .entry)) alone (now (seen .entry)) x r ⌝ }
+) -> Next
+    ensures { λ r. ⌜ Finds (now (follow .entry)) (now (doubles .entry)) (now (shares .entry)) alone (now (seen .entry)) left x r ⌝ }
 {
     if x <= 60 {
         let next = row(follow, x);
         let new = bits::difference(next, alone);
         if new != 0 {
-            return bits::lowest(new);
+            let node = bits::lowest(new);
+            return Next { node, left };
         }
-        return new_pair(shares, seen, next, next, doubles[x]);
+        let from = bits::intersection(next, left);
+        return new_pair(shares, seen, from, next, doubles[x]);
     }
     let a = x / 64;
     let b = x % 64;
     if x < 64 {
-        return NONE;
+        return Next { node: NONE, left };
     }
     if 60 < a {
-        return NONE;
+        return Next { node: NONE, left };
     }
     if 60 < b {
-        return NONE;
+        return Next { node: NONE, left };
     }
-    new_pair(shares, seen, row(follow, a), row(follow, b), u64::MAX)
+    let from = bits::intersection(row(follow, a), left);
+    new_pair(shares, seen, from, row(follow, b), u64::MAX)
 }
 
 // Takes the node y up besides: a state in the set of states, which it gives, a pair in both of its rows, so that row a has b and
@@ -68,8 +79,9 @@ fn row(follow: &[u64; 61], u: usize) -> u64
     bits::intersection(follow[u], bits::span(1, 61))
 }
 
-// A pair that is not taken up, of a position of `from` and one of `to`; of a position and itself only where `own` has it.
-fn new_pair<'a>(shares: &'a [u64; 61], seen: &'a [u64; 61], from: u64, to: u64, own: u64) -> usize
+// A pair that is not taken up, of a position of `from` and one of `to`; of a position and itself only where `own` has it. What
+// is left of `from` then is without those that have none.
+fn new_pair<'a>(shares: &'a [u64; 61], seen: &'a [u64; 61], from: u64, to: u64, own: u64) -> Next
     requires { ⌜ ((i : ℕ) → hasBit from i ≡ true → i ≤ 60) × ((i : ℕ) → hasBit to i ≡ true → i ≤ 60) ⌝ }
     ensures { λ r. ⌜ FindsPair (now (shares .entry)) (now (seen .entry)) from to own r ⌝ }
 {
@@ -78,11 +90,12 @@ fn new_pair<'a>(shares: &'a [u64; 61], seen: &'a [u64; 61], from: u64, to: u64, 
         let a = bits::lowest(left);
         let new = partners(to, shares[a], seen[a], a, own);
         if new != 0 {
-            return pair(a, bits::lowest(new));
+            let node = pair(a, bits::lowest(new));
+            return Next { node, left };
         }
         left = bits::rest(left);
     }
-    NONE
+    Next { node: NONE, left }
 }
 
 // Of the set `to`, the positions that share a letter with a and are not seen beside it; a itself only where `own` has it.

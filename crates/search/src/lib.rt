@@ -10,12 +10,14 @@ ghost use Rattle.search.specs.Search.{enqueue, isGoal, Tried, Searching,
 ghost use Rattle.shares.specs.Tables.{Rows, Doubles, Shares};
 
 // A search under way. `head` and `tail` bound the queue of nodes taken up whose steps are still to be gone through. `alone` has the
-// states taken up. The pairs taken up are in rows beside it, `seen`, which are lent and not copied.
+// states taken up. The pairs taken up are in rows beside it, `seen`, which are lent and not copied. Of the pairs one step on from the
+// head, those whose first path is at a position outside `left` are taken up already.
 pub struct Search {
     head: usize,
     pub tail: usize,
     pub found: bool,
     alone: u64,
+    left: u64,
 }
 
 // Where a search is to end: a parted pair in `mask`, or for a search of one path a state in it.
@@ -91,6 +93,7 @@ fn begin(scratch: &mut [u16], goal: Goal, start: usize) -> Search
         tail: 1,
         found: is_goal(goal, start),
         alone: bits::only(start),
+        left: u64::MAX,
     }
 }
 
@@ -110,6 +113,7 @@ fn visit<'a>(
 {
     let tail = w.tail;
     let mut head = w.head;
+    let mut left = w.left;
     let alone = w.alone;
     if BACK <= tail {
         return Search {
@@ -117,27 +121,31 @@ fn visit<'a>(
             tail,
             found: false,
             alone,
+            left,
         };
     }
     while head < tail {
         let x = scratch[head] as usize;
-        let y = nodes::next_new(follow, doubles, shares, &*seen, alone, x);
-        if y < nodes::NONE {
-            push(&mut *scratch, tail, y, head);
+        let y = nodes::next_new(follow, doubles, shares, &*seen, alone, left, x);
+        if y.node < nodes::NONE {
+            push(&mut *scratch, tail, y.node, head);
             return Search {
                 head,
                 tail: tail + 1,
-                found: is_goal(goal, y),
-                alone: nodes::take_up(&mut *seen, alone, y),
+                found: is_goal(goal, y.node),
+                alone: nodes::take_up(&mut *seen, alone, y.node),
+                left: y.left,
             };
         }
         head += 1;
+        left = u64::MAX;
     }
     Search {
         head,
         tail,
         found: false,
         alone,
+        left,
     }
 }
 

@@ -14,11 +14,11 @@ use Rattle.search.proofs.visit.Statement.{statement}
 use Rattle.search.proofs.visit.Tie as tie
 
 abbrev Inv-loop : tie.InvT-loop
-Inv-loop follow doubles shares seen₀ scratch₀ goal tail head₀ alone seen scratch head =
-    (scratch ≡ scratch₀) × (SoundSearch follow doubles shares scratch₀ head₀ tail alone seen₀ → SoundSearch follow doubles shares scratch head tail alone seen)
+Inv-loop follow doubles shares seen₀ scratch₀ goal tail head₀ left₀ alone seen scratch head left =
+    (scratch ≡ scratch₀) × (SoundSearch follow doubles shares scratch₀ head₀ tail alone left₀ seen₀ → SoundSearch follow doubles shares scratch head tail alone left seen)
 
 abbrev μ-loop : tie.MeasureT-loop
-μ-loop follow doubles shares seen₀ scratch₀ goal tail head₀ alone seen scratch head = tail - head
+μ-loop follow doubles shares seen₀ scratch₀ goal tail head₀ left₀ alone seen scratch head left = tail - head
 
 returns : tie.Need-returns Inv-loop μ-loop
 returns c = record { ends = inr (refl, le-refl (c .before .before .args .w .tail)); right = λ w. absurd (omega (arith, c .if1 .taken, few-taken w)) }
@@ -43,44 +43,44 @@ next-new-requires c κs = tt
 
 push-requires : tie.Need-push-requires Inv-loop μ-loop
 push-requires c κs =
-    let i = c .before .before .before .before .before in
+    let i = c .before .before .before .before .before .before in
     (bound i .1, bound i .0, c .before .if2 .taken, omega (arith, bound i))
 
-add-t22 : tie.Need-add-t22 Inv-loop μ-loop
-add-t22 c = omega (arith, bound (c .before .before .before .before .before .before .before .before))
+add-t23 : tie.Need-add-t23 Inv-loop μ-loop
+add-t23 c = omega (arith, bound (c .before .before .before .before .before .before .before .before .before))
 
 is-goal-requires : tie.Need-is-goal-requires Inv-loop μ-loop
 is-goal-requires c κs = c .before .before .before .before .if2 .taken
 
 take-up-requires : tie.Need-take-up-requires Inv-loop μ-loop
-take-up-requires c κs = fresh-node _ _ _ _ _ _ _ (c .before .before .before .before .before .before .before .next-new .ensures .some (c .before .before .before .before .before .before .if2 .taken))
+take-up-requires c κs = fresh-node _ _ _ _ _ _ _ (c .before .before .before .before .before .before .before .before .next-new .ensures .some (c .before .before .before .before .before .before .if2 .taken))
 
 same-length : tie.Need-same-length Inv-loop μ-loop
-same-length c = c .before .before .before .before .before .push .kept .0 ∙ ap length (c .before .before .before .before .before .before .before .before .before .before .before .before .loop .inv .0)
+same-length c = c .before .before .before .before .before .push .kept .0 ∙ ap length (c .before .before .before .before .before .before .before .before .before .before .before .before .before .loop .inv .0)
 
 returns-2 : tie.Need-returns-2 Inv-loop μ-loop
 returns-2 c =
     let p = c .before .before .before .before .before .push in
     let t = c .before .before .before .before .before .before .before in
-    let n = t .before .next-new in
-    let i = t .before .before .before .before in
+    let n = t .before .before .next-new in
+    let i = t .before .before .before .before .before in
     let l = i .before .loop in
     record {
       ends = inl refl;
-      right = λ w. took (l .inv .1 w) (l .inv .0) (i .loop-test .taken) (n .ensures .some (t .if2 .taken)) (p .ensures) (c .before .before .is-goal .ensures) (c .take-up .ensures);
+      right = λ w. took (l .inv .1 w) (l .inv .0) (i .loop-test .taken) (n .ensures) (t .if2 .taken) (p .ensures) (c .before .before .is-goal .ensures) (c .take-up .ensures);
     }
 
 add-head : tie.Need-add-head Inv-loop μ-loop
-add-head c = omega (arith, bound (c .before .before .before .before))
+add-head c = omega (arith, bound (c .before .before .before .before .before))
 
 loop-less : tie.Need-loop-less Inv-loop μ-loop
-loop-less c = omega (arith, c .before .before .before .before .loop-test .taken)
+loop-less c = omega (arith, c .before .before .before .before .before .loop-test .taken)
 
 loop-again : tie.Need-loop-again Inv-loop μ-loop
 loop-again c =
-    let i = c .before .before .before .before in
+    let i = c .before .before .before .before .before in
     let l = i .before .loop in
-    let n = c .before .next-new in
+    let n = c .before .before .next-new in
     (l .inv .0, λ w. passed-on (l .inv .1 w) (i .loop-test .taken) (n .ensures) (c .if2 .left))
 
 same-length-2 : tie.Need-same-length-2 Inv-loop μ-loop
@@ -107,7 +107,7 @@ visit-spec =
     cast-x
     next-new-requires
     push-requires
-    add-t22
+    add-t23
     is-goal-requires
     take-up-requires
     same-length
