@@ -20,7 +20,8 @@ plot 12 + 0.2*x ls 2 title "12 + 0.2 for each letter", "marking.dat" with linesp
 set title "Vetting: up to the fourth power of the positions"
 set xlabel "positions of the pattern"
 set xrange [0:62]
-set yrange [0:1300]
+set yrange [0:975]
 set xtics 10
-plot 1090.0*(x/60)**4 ls 2 title "fourth power, through the last point", "vetting.dat" with linespoints ls 1 title "measured"
+set ytics 150
+plot 762.4*(x/60)**4 ls 2 title "fourth power, through the last point", "vetting.dat" with linespoints ls 1 title "measured"
 unset multiplot

@@ -1,5 +1,5 @@
 // The two calls: vet a pattern, mark an answer. Neither has a `requires`: each tests its input itself, and what it gives is
-// said for all input.
+// said for all input. Each lends reading a table of 61 * 61 numbers, in which it counts links.
 use marks::Marked;
 use vetting::Vetted;
 ghost use mathlib.Core.Path.{_≡_};

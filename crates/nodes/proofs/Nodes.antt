@@ -212,7 +212,7 @@ find-single {alone = alone} {next = next} new {r} h row f k m =
 -- a pair that is not taken up, where states are
 find-pair : {F D S : List ℕ} {alone : ℕ} {seen : List ℕ} {left x all from to own : ℕ} {r : Next} → RowOf F (leftOf x) all → ((a : ℕ) → hasBit from a ≡ (hasBit all a && hasBit left a)) → RowOf F (rightOf x) to
     → ((a : ℕ) → hasBit all a ≡ true → hasBit own a ≡ (leb 64 x || hasBit (getD D x 0) a)) → ((a : ℕ) → x < 64 → goes F x a ≡ true → hasBit alone a ≡ true) → FindsPair S seen from to own r → Finds F D S alone seen left x r
-find-pair {F} {D} {S} {alone} {seen} {left} {x} {all} {from} {to} {own} {r} row cut right q gone d = record {
+find-pair {F} {D} {S} {alone} {seen} {left} {x} {all} {from} {to} {own} {r} row cut right q states d = record {
   some = λ l.
       let p = d .some l in
       let a = p .0 in
@@ -233,7 +233,7 @@ find-pair {F} {D} {S} {alone} {seen} {left} {x} {all} {from} {to} {own} {r} row 
         record { left = cut a ∙ and-of (hasBit all a) (hasBit left a) h k; right = right .bits b ∙ p .right; share = p .share; new = e; apart = ap (λ (t : Bool). t || not (eqb a b)) (q a h) ∙ p .apart }
 
     none : 4096 ≤ r .node → Gone F D S seen left x → (y : ℕ) → Fresh F D S alone seen x y → ⊥
-    none l g y (new-single {a} k h e) = true≢false (sym (gone a k h) ∙ e)
+    none l g y (new-single {a} k h e) = true≢false (sym (states a k h) ∙ e)
     none l g y (new-beside {a} {b} p e) = d .none l a b (free g a b p e)
 
 -- from a state whose next states are taken up
@@ -242,10 +242,10 @@ pub find-parting : {F D S : List ℕ} {alone : ℕ} {seen : List ℕ} {left x ne
 find-parting {F} {D} {alone = alone} {x = x} {next} new h row f z cut d =
     let low : x < 64 = omega arith in
     find-pair (subst (λ (u : ℕ). RowOf F u next) (sym (left-low x low)) row) cut (subst (λ (u : ℕ). RowOf F u next) (sym (right-low x low)) row)
-    (λ a l. sym (ap (λ (t : Bool). t || hasBit (getD D x 0) a) (lt-leb 64 x low))) (λ a l g. gone a g) d
+    (λ a l. sym (ap (λ (t : Bool). t || hasBit (getD D x 0) a) (lt-leb 64 x low))) (λ a l g. states a g) d
   where
-    gone : (a : ℕ) → goes F x a ≡ true → hasBit alone a ≡ true
-    gone a g =
+    states : (a : ℕ) → goes F x a ≡ true → hasBit alone a ≡ true
+    states a g =
         by-test (hasBit alone a) (λ t. t)
         (λ t. absurd (true≢false (sym (f a ∙ and-of (hasBit next a) (not (hasBit alone a)) (row .bits a ∙ g) (ap not t)) ∙ ap (λ (m : ℕ). hasBit m a) z ∙ has-none a)))
 

@@ -45,16 +45,14 @@ fn pattern(
     let mut all = rows;
     let mut so_far = parsed::nothing(at, n, false);
     loop {
-        let b = branch(s, so_far.at, so_far.n, all, sets, credits, more);
-        all = b.rows;
+        let mut b = branch(s, so_far.at, so_far.n, all, sets, credits, more);
         let next = b.part;
         so_far = parsed::either(so_far, next);
         if !is_bar(s, so_far.good, so_far.at) {
-            return ParsedRows {
-                part: so_far,
-                rows: all,
-            };
+            b.part = so_far;
+            return b;
         }
+        all = b.rows;
         so_far.at = so_far.at + 1;
     }
 }

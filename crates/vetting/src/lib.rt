@@ -31,7 +31,7 @@ pub fn vet(b: Built, more: &[u8], evidence: &mut [u8], scratch: &mut [u16]) -> V
 {
     let follow = b.follow;
     let sets = b.letters;
-    let doubles = double_rows(b, more);
+    let doubles = shares::double_rows(&follow, more, b.doubled, b.positions);
     let mut shares = [0u64; 61];
     shares::share_rows(sets, &mut shares, b.positions);
     let q = search::first_pivot(&follow, &doubles, &shares, &mut *scratch, b.positions);
@@ -39,15 +39,6 @@ pub fn vet(b: Built, more: &[u8], evidence: &mut [u8], scratch: &mut [u16]) -> V
         return single_or_steady(b, more, &doubles, &shares, &mut *evidence, &mut *scratch);
     }
     runaway(b, more, &doubles, &shares, &mut *evidence, &mut *scratch, q)
-}
-
-// Where two links or more lead, in rows. Most patterns have no such place, and then nothing is looked up.
-fn double_rows(b: Built, more: &[u8]) -> [u64; 61]
-    requires { ⌜ Vettable b (now more) × (b .doubled ≡ true → length (now more) ≡ 3721) ⌝ }
-    ensures { λ r. ⌜ Doubles (graphOfBuilt b (now (more .entry))) r ⌝ }
-{
-    let follow = b.follow;
-    shares::double_rows(&follow, more, b.doubled, b.positions)
 }
 
 // Of a pattern without a pivot, whose links `more` counts: steady where two readings part and both come to an end, else single.

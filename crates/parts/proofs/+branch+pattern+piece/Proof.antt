@@ -189,17 +189,17 @@ pattern-is-bar-requires : (t : ℕ) → pattern-lts.Need-is-bar-requires (patter
 pattern-is-bar-requires t c κs = search needs
 
 pattern-same-length : (t : ℕ) → pattern-lts.Need-same-length (pattern-env t) (pattern-at t) pattern.Post pattern-Inv-loop pattern-μ-loop
-pattern-same-length t c = c .before .before .before .before .before .before .before .before .before .before .before .branch .kept .1 .1 .1 .1 .0 ∙ c .before .before .before .before .before .before .before .before .before .before .before .before .before .before .before .loop .inv .1 .sets-are ∙ sym (c .before .before .before .before .before .before .before .before .before .before .before .before .before .before .before .before .before .before .before .before .before .pre .1 .1 .sets-are)
+pattern-same-length t c = c .before .before .before .before .before .before .before .before .before .before .branch .kept .1 .1 .1 .1 .0 ∙ c .before .before .before .before .before .before .before .before .before .before .before .before .before .before .loop .inv .1 .sets-are ∙ sym (c .before .before .before .before .before .before .before .before .before .before .before .before .before .before .before .before .before .before .before .before .pre .1 .1 .sets-are)
 
 pattern-same-length-2 : (t : ℕ) → pattern-lts.Need-same-length-2 (pattern-env t) (pattern-at t) pattern.Post pattern-Inv-loop pattern-μ-loop
-pattern-same-length-2 t c = c .before .before .before .before .before .before .before .before .before .before .before .branch .kept .1 .1 .1 .1 .1 .0 ∙ c .before .before .before .before .before .before .before .before .before .before .before .before .before .before .before .loop .inv .1 .credits-are ∙ sym (c .before .before .before .before .before .before .before .before .before .before .before .before .before .before .before .before .before .before .before .before .before .pre .1 .1 .credits-are)
+pattern-same-length-2 t c = c .before .before .before .before .before .before .before .before .before .before .branch .kept .1 .1 .1 .1 .1 .0 ∙ c .before .before .before .before .before .before .before .before .before .before .before .before .before .before .loop .inv .1 .credits-are ∙ sym (c .before .before .before .before .before .before .before .before .before .before .before .before .before .before .before .before .before .before .before .before .pre .1 .1 .credits-are)
 
 pattern-same-length-3 : (t : ℕ) → pattern-lts.Need-same-length-3 (pattern-env t) (pattern-at t) pattern.Post pattern-Inv-loop pattern-μ-loop
-pattern-same-length-3 t c = c .before .before .before .before .before .before .before .before .before .before .before .branch .kept .1 .1 .1 .1 .1 .1 .0 ∙ c .before .before .before .before .before .before .before .before .before .before .before .before .before .before .before .loop .inv .3
+pattern-same-length-3 t c = c .before .before .before .before .before .before .before .before .before .before .branch .kept .1 .1 .1 .1 .1 .1 .0 ∙ c .before .before .before .before .before .before .before .before .before .before .before .before .before .before .loop .inv .3
 
 pattern-returns : (t : ℕ) → pattern-lts.Need-returns (pattern-env t) (pattern-at t) pattern.Post pattern-Inv-loop pattern-μ-loop
 pattern-returns t c =
-    ends branches _ _ _ _ _ _ _ _ _ _ (c .before .before .before .before .before .before .before .before .before .before .before .before .before .before .before .loop .inv .2) (c .before .before .before .before .before .before .before .before .before .before .before .branch .ensures) (c .before .before .either .ensures, refl) (sym (c .before .is-bar .ensures) ∙ not-true (c .before .is-bar .result) (c .if1 .taken))
+    ends branches _ _ _ _ _ _ _ _ _ _ (c .before .before .before .before .before .before .before .before .before .before .before .before .before .before .loop .inv .2) (c .before .before .before .before .before .before .before .before .before .before .branch .ensures) (c .before .before .either .ensures, refl) (sym (c .before .is-bar .ensures) ∙ not-true (c .before .is-bar .result) (c .if1 .taken))
 
 -- a text has fewer bytes than a number can count
 text-fits : (t : ℕ) (c : pattern-lts.After-shared-slice-known (pattern-env t) (pattern-at t) pattern.Post pattern-Inv-loop pattern-μ-loop) → length (c .before .args .s .now) < 2 ^ 64
@@ -207,23 +207,23 @@ text-fits t c = omega arith
 
 pattern-add-so-far : (t : ℕ) → pattern-lts.Need-add-so-far (pattern-env t) (pattern-at t) pattern.Post pattern-Inv-loop pattern-μ-loop
 pattern-add-so-far t c =
-    let bar = sym (c .before .before .is-bar .ensures) ∙ not-false (c .before .before .is-bar .result) (c .before .if1 .left) in
-    omega (arith, bar-within (c .before .before .before .before .before .before .before .before .before .before .before .before .before .before .before .before .before .before .before .before .before .before .args .s .now) (c .before .before .before .either .result .good) (c .before .before .before .either .result .at) bar, text-fits t (c .before .before .before .before .before .before .before .before .before .before .before .before .before .before .before .before .before .before .before .before .before))
+    let bar = sym (c .before .before .before .is-bar .ensures) ∙ not-false (c .before .before .before .is-bar .result) (c .before .before .if1 .left) in
+    omega (arith, bar-within (c .before .before .before .before .before .before .before .before .before .before .before .before .before .before .before .before .before .before .before .before .before .before .args .s .now) (c .before .before .before .before .either .result .good) (c .before .before .before .before .either .result .at) bar, text-fits t (c .before .before .before .before .before .before .before .before .before .before .before .before .before .before .before .before .before .before .before .before .before))
 
 pattern-loop-less : (t : ℕ) → pattern-lts.Need-loop-less (pattern-env t) (pattern-at t) pattern.Post pattern-Inv-loop pattern-μ-loop
 pattern-loop-less t c =
-    let bar = sym (c .before .before .is-bar .ensures) ∙ not-false (c .before .before .is-bar .result) (c .before .if1 .left) in
+    let bar = sym (c .before .before .before .is-bar .ensures) ∙ not-false (c .before .before .before .is-bar .result) (c .before .before .if1 .left) in
     let b = c .before .before .before .before .before .before .before .before .before .before .before .before .branch in
     let then = memory (b .result .rows) (b .last .1 .1 .1 .1 .1 .1 .0) (b .last .1 .1 .1 .1 .0) (b .last .1 .1 .1 .1 .1 .0) in
-    let goes = goes-on branches _ _ _ _ _ then then _ _ _ (c .before .before .before .before .before .before .before .before .before .before .before .before .before .before .before .before .loop .inv .2) (b .ensures) (c .before .before .before .either .ensures, refl) (c .before .before .before .either .result .at + 1) refl bar in
-    omega (arith, goes .1, bar-within (c .before .before .before .before .before .before .before .before .before .before .before .before .before .before .before .before .before .before .before .before .before .before .args .s .now) (c .before .before .before .either .result .good) (c .before .before .before .either .result .at) bar)
+    let goes = goes-on branches _ _ _ _ _ then then _ _ _ (c .before .before .before .before .before .before .before .before .before .before .before .before .before .before .before .before .loop .inv .2) (b .ensures) (c .before .before .before .before .either .ensures, refl) (c .before .before .before .before .either .result .at + 1) refl bar in
+    omega (arith, goes .1, bar-within (c .before .before .before .before .before .before .before .before .before .before .before .before .before .before .before .before .before .before .before .before .before .before .args .s .now) (c .before .before .before .before .either .result .good) (c .before .before .before .before .either .result .at) bar)
 
 pattern-loop-again : (t : ℕ) → pattern-lts.Need-loop-again (pattern-env t) (pattern-at t) pattern.Post pattern-Inv-loop pattern-μ-loop
 pattern-loop-again t c =
-    let bar = sym (c .before .before .is-bar .ensures) ∙ not-false (c .before .before .is-bar .result) (c .before .if1 .left) in
+    let bar = sym (c .before .before .before .is-bar .ensures) ∙ not-false (c .before .before .before .is-bar .result) (c .before .before .if1 .left) in
     let b = c .before .before .before .before .before .before .before .before .before .before .before .before .branch in
     let then = memory (b .result .rows) (b .last .1 .1 .1 .1 .1 .1 .0) (b .last .1 .1 .1 .1 .0) (b .last .1 .1 .1 .1 .1 .0) in
-    let goes = goes-on branches _ _ _ _ _ then then _ _ _ (c .before .before .before .before .before .before .before .before .before .before .before .before .before .before .before .before .loop .inv .2) (b .ensures) (c .before .before .before .either .ensures, refl) (c .before .before .before .either .result .at + 1) refl bar in
+    let goes = goes-on branches _ _ _ _ _ then then _ _ _ (c .before .before .before .before .before .before .before .before .before .before .before .before .before .before .before .before .loop .inv .2) (b .ensures) (c .before .before .before .before .either .ensures, refl) (c .before .before .before .before .either .result .at + 1) refl bar in
     let sized = c .before .before .before .before .before .before .before .before .before .before .before .before .before .before .before .before .loop .inv .1 in
     (search needs, record { sets-are = b .kept .1 .1 .1 .1 .0 ∙ sized .sets-are; credits-are = b .kept .1 .1 .1 .1 .1 .0 ∙ sized .credits-are }, goes .0, b .kept .1 .1 .1 .1 .1 .1 .0 ∙ c .before .before .before .before .before .before .before .before .before .before .before .before .before .before .before .before .loop .inv .3)
 
