@@ -280,8 +280,8 @@ fn sets(b: &Built) -> Sets {
     s
 }
 
-/// Marking by sets.
-pub fn mark(text: &[u8], answer: &[u8]) -> Result<(u64, u32), u8> {
+/// The pattern, where nothing refuses it or the answer.
+fn accepted(text: &[u8], answer: &[u8]) -> Result<Built, u8> {
     let b = read(text)?;
     if answer.len() > 4096 {
         return Err(9);
@@ -289,6 +289,12 @@ pub fn mark(text: &[u8], answer: &[u8]) -> Result<(u64, u32), u8> {
     if answer.iter().any(|c| !(32..=126).contains(c)) {
         return Err(10);
     }
+    Ok(b)
+}
+
+/// Marking by sets.
+pub fn mark(text: &[u8], answer: &[u8]) -> Result<(u64, u32), u8> {
+    let b = accepted(text, answer)?;
     let s = sets(&b);
     let numbers = b.numbers();
     // where no two are linked twice there is no multiplication
@@ -341,13 +347,7 @@ fn mark_by<const LINKED: bool>(b: &Built, s: &Sets, numbers: &[[u8; 61]], answer
 
 /// Marking by trying all pairs of positions at each letter, without sets.
 pub fn mark_all_pairs(text: &[u8], answer: &[u8]) -> Result<(u64, u32), u8> {
-    let b = read(text)?;
-    if answer.len() > 4096 {
-        return Err(9);
-    }
-    if answer.iter().any(|c| !(32..=126).contains(c)) {
-        return Err(10);
-    }
+    let b = accepted(text, answer)?;
     let numbers = b.numbers();
     let linked = !numbers.is_empty();
     let mut follow = [[false; 61]; 61];

@@ -23,5 +23,5 @@ set xrange [0:62]
 set yrange [0:975]
 set xtics 10
 set ytics 150
-plot 762.4*(x/60)**4 ls 2 title "fourth power, through the last point", "vetting.dat" with linespoints ls 1 title "measured"
+plot 762.6*(x/60)**4 ls 2 title "fourth power, through the last point", "vetting.dat" with linespoints ls 1 title "measured"
 unset multiplot

@@ -23,7 +23,7 @@ pub fn step(
     more: &[u8],
 ) -> u64
     requires { ⌜ (active < 2 ^ 61) × (holds < 2 ^ 61) × (from + 61 ≤ length (now counts)) × (from + 61 ≤ length (now best)) × (to + 61 ≤ length (now counts))
-        × (to + 61 ≤ length (now best)) × ((i : ℕ) → i < 61 → Outside to (from + i)) × (linked ≡ true → 3721 ≤ length (now more)) ⌝ }
+        × (to + 61 ≤ length (now best)) × ((i : ℕ) → i < 61 → Outside to (from + i)) × (3721 ≤ length (now more)) ⌝ }
     ensures { λ r. ⌜ Stepped linked (now (more .entry)) (now (before .entry)) (now (credits .entry)) from to active holds (now (counts .entry)) (now (best .entry)) (now (counts .exit)) (now (best .exit)) r ⌝ }
 {
     let mut left = holds;
@@ -112,7 +112,7 @@ fn gather_for(
     more: &[u8],
     i: usize,
 ) -> Sum
-    requires { ⌜ (members < 2 ^ 61) × (from + 61 ≤ length (now counts)) × (from + 61 ≤ length (now best)) × (linked ≡ true → 3721 ≤ length (now more)) × (i < 61) ⌝ }
+    requires { ⌜ (members < 2 ^ 61) × (from + 61 ≤ length (now counts)) × (from + 61 ≤ length (now best)) × (3721 ≤ length (now more)) × (i < 61) ⌝ }
     ensures { λ r. ⌜ (r .count ≡ countOf members (weighted linked (now (more .entry)) i (cell (now (counts .entry)) from)))
         × (r .most ≡ mostOf members (cell (now (best .entry)) from)) ⌝ }
 {
@@ -136,7 +136,7 @@ fn fill(
     i: usize,
 )
     requires { ⌜ (members < 2 ^ 61) × (from + 61 ≤ length (now counts)) × (from + 61 ≤ length (now best)) × (at < length (now counts)) × (at < length (now best))
-        × (linked ≡ true → 3721 ≤ length (now more)) × (i < 61) ⌝ }
+        × (3721 ≤ length (now more)) × (i < 61) ⌝ }
     ensures { λ _. ⌜ (now (counts .exit) ≡ stored members (now (counts .entry)) at (countOf members (weighted linked (now (more .entry)) i (cell (now (counts .entry)) from))))
         × (now (best .exit) ≡ stored members (now (best .entry)) at ((mostOf members (cell (now (best .entry)) from) + credit) % 2 ^ 32)) ⌝ }
 {

@@ -110,7 +110,7 @@ counts-alone j rows more more′ g e c a b x y = c a b x y ∙ ap (after (g a b)
 abbrev pub toFurther : List ℕ → ℕ → ℕ → ℕ → ℕ → ℕ
 toFurther more a left x y = if eqb a x && hasBit left y then further (getD more (entry x y) 0) else getD more (entry x y) 0
 
-pub further-turn : (more : List ℕ) (a left t others v : ℕ) → length more ≡ 3721 → a < 61 → t < 61 → Least left t → Less (hasBit left) t (hasBit others) → v ≡ further (getD more (entry a t) 0)
+pub further-turn : (more : List ℕ) (a left t others v : ℕ) → Room more → a < 61 → t < 61 → Least left t → Less (hasBit left) t (hasBit others) → v ≡ further (getD more (entry a t) 0)
     → (x y : ℕ) → kept y ≡ true → toFurther (set more (entry a t) v) a others x y ≡ toFurther more a left x y
 further-turn more a left t others v size small low l e is x y k =
     let within : y < 61 = ltb-true y 61 k in
@@ -140,9 +140,9 @@ further-end more a left z x y =
     none false w e = refl
 
 -- entries that are bytes stay so
-pub further-small : (more more′ : List ℕ) (a set : ℕ) → Room more → Further more a set more′ → ((x y : ℕ) → kept y ≡ true → getD more (entry x y) 0 < 256) → (x y : ℕ) → kept y ≡ true → getD more′ (entry x y) 0 < 256
-further-small more more′ a set room w small x y k =
-    subst (λ (n : ℕ). n < 256) (sym (w .counts room x y k))
+pub further-small : (more more′ : List ℕ) (a set : ℕ) → Further more a set more′ → ((x y : ℕ) → kept y ≡ true → getD more (entry x y) 0 < 256) → (x y : ℕ) → kept y ≡ true → getD more′ (entry x y) 0 < 256
+further-small more more′ a set w small x y k =
+    subst (λ (n : ℕ). n < 256) (sym (w .counts x y k))
     (if-either (λ (n : ℕ). n < 256) (further (getD more (entry x y) 0)) (getD more (entry x y) 0) (eqb a x && hasBit set y) (λ e. further-fits (getD more (entry x y) 0) (small x y k)) (λ e. small x y k))
 
 -- ---- one link more from one of the lasts at a time
@@ -161,14 +161,14 @@ one-link false false n h = refl
 
 pub count-turn : (rows more more′ : List ℕ) (left firsts t row old others : ℕ) → t < length rows → Least left t → Less (hasBit left) t (hasBit others)
     → ((j : ℕ) → hasBit row j ≡ (hasBit (getD rows t 0) j || hasBit firsts j)) → ((j : ℕ) → kept j ≡ true → hasBit old j ≡ (hasBit (getD rows t 0) j && hasBit firsts j))
-    → Room more → Further more t old more′ → ((x y : ℕ) → kept y ≡ true → getD more (entry x y) 0 < 256)
+    → Further more t old more′ → ((x y : ℕ) → kept y ≡ true → getD more (entry x y) 0 < 256)
     → (a b : ℕ) → kept b ≡ true → toCount (set rows t row) more′ others firsts a b ≡ toCount rows more left firsts a b
-count-turn rows more more′ left firsts t row old others h l e j o room w small a b k =
+count-turn rows more more′ left firsts t row old others h l e j o w small a b k =
     by-equal a t (λ z. subst (λ (x : ℕ). toCount (set rows t row) more′ others firsts x b ≡ toCount rows more left firsts x b) (sym z) here)
     (λ d.
     ap₂ (λ (u : Bool) (n : ℕ). after (if u && hasBit firsts b then 1 else 0) n) (less-other (hasBit left) (hasBit others) t e a (λ z. d (sym z)))
     (ap₂ (λ (x : ℕ) (n : ℕ). (if hasBit x b then 1 else 0) + n) (getD-set-other rows t a row 0 d)
-    (w .counts room a b k ∙ ap (λ (u : Bool). if u && hasBit old b then further (getD more (entry a b) 0) else getD more (entry a b) 0) (ne-eqb t a (λ z. d (sym z))))))
+    (w .counts a b k ∙ ap (λ (u : Bool). if u && hasBit old b then further (getD more (entry a b) 0) else getD more (entry a b) 0) (ne-eqb t a (λ z. d (sym z))))))
   where
     r : Bool
     r = hasBit (getD rows t 0) b
@@ -180,7 +180,7 @@ count-turn rows more more′ left firsts t row old others h l e j o room w small
     here =
         ap₂ (λ (u : Bool) (n : ℕ). after (if u && f then 1 else 0) n) (less-here (hasBit left) (hasBit others) t e)
         (ap₂ (λ (u : Bool) (n : ℕ). (if u then 1 else 0) + n) (ap (λ (x : ℕ). hasBit x b) (getD-set-same rows t row 0 h) ∙ j b)
-        (w .counts room t b k ∙ ap₂ (λ (u v : Bool). if u && v then further (getD more (entry t b) 0) else getD more (entry t b) 0) (eq-eqb t t refl) (o b k)))
+        (w .counts t b k ∙ ap₂ (λ (u v : Bool). if u && v then further (getD more (entry t b) 0) else getD more (entry t b) 0) (eq-eqb t t refl) (o b k)))
         ∙ one-link r f (getD more (entry t b) 0) (small t b k)
         ∙ sym (ap (λ (u : Bool). after (if u && f then 1 else 0) (number rows more t b)) (l .here))
 

@@ -68,17 +68,16 @@ Clear n rows more = (a b : ℕ) → kept a ≡ true → kept b ≡ true → n < 
 abbrev pub Room : List ℕ → Type 0
 Room more = length more ≡ 3721
 
--- one more beyond the first from a to each of a set, if there is room
+-- one more beyond the first from a to each of a set
 pub record Further (more : List ℕ) (a set : ℕ) (more′ : List ℕ) : Type 0 where
-  pub counts : Room more → (x y : ℕ) → kept y ≡ true → getD more′ (entry x y) 0 ≡ (if eqb a x && hasBit set y then further (getD more (entry x y) 0) else getD more (entry x y) 0)
+  pub counts : (x y : ℕ) → kept y ≡ true → getD more′ (entry x y) 0 ≡ (if eqb a x && hasBit set y then further (getD more (entry x y) 0) else getD more (entry x y) 0)
   pub none : set ≡ 0 → more′ ≡ more
   pub size : length more′ ≡ length more
 
 -- each of firsts may follow each of lasts that has a row, by one link more; where r is false none is a second one
 pub record LinksMore (rows more : List ℕ) (lasts firsts : ℕ) (rows′ more′ : List ℕ) (r : Bool) : Type 0 where
   pub linked : Linked rows lasts firsts rows′
-  pub counts : Room more → Counts rows more (λ a b. if hasBit lasts a && hasBit firsts b then 1 else 0) rows′ more′
+  pub counts : Counts rows more (λ a b. if hasBit lasts a && hasBit firsts b then 1 else 0) rows′ more′
   pub none : r ≡ false → more′ ≡ more
-  pub first : r ≡ false → (a b : ℕ) → kept a ≡ true → kept b ≡ true → hasBit lasts a ≡ true → hasBit firsts b ≡ true → hasBit (getD rows a 0) b ≡ false
   pub rows-are : length rows′ ≡ 61
   pub size : length more′ ≡ length more

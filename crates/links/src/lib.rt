@@ -1,13 +1,12 @@
 // Sets and rows of positions: row a has the positions that may follow position a. There is room for positions up to 60; those past
-// 60 are counted only. A lent table has the numbers of links: entry 61 * a + b is how many lead from a to b beyond the first. A table
-// of another length has no room for them, and is left as it is.
+// 60 are counted only. A lent table has the numbers of links: entry 61 * a + b is how many lead from a to b beyond the first.
 ghost use mathlib.Core.Path.{_≡_};
 ghost use mathlib.Core.Bool.{_&&_, _||_};
 ghost use Prim.Native.Nat.{ℕ, _<_, _^_};
 ghost use lib.Dec.{eqb};
 ghost use lib.ListN.{length};
 ghost use Rattle.bits.specs.Bits.{hasBit};
-ghost use Rattle.links.specs.Rows.{further, Marks, Linked, Further, LinksMore};
+ghost use Rattle.links.specs.Rows.{further, Marks, Linked, Room, Further, LinksMore};
 
 // Each of firsts may follow each of lasts that has a row.
 pub fn link(rows: &mut [u64; 61], lasts: u64, firsts: u64)
@@ -24,7 +23,7 @@ pub fn link(rows: &mut [u64; 61], lasts: u64, firsts: u64)
 
 // The same by one link more, where they may follow already. Says whether one of them did.
 pub fn link_again(rows: &mut [u64; 61], more: &mut [u8], lasts: u64, firsts: u64) -> bool
-    requires { ⌜ length (now rows) ≡ 61 ⌝ }
+    requires { ⌜ (length (now rows) ≡ 61) × Room (now more) ⌝ }
     ensures { λ r. ⌜ LinksMore (now (rows .entry)) (now (more .entry)) lasts firsts (now (rows .exit)) (now (more .exit)) r ⌝ }
 {
     let all = bits::below(61);
@@ -42,14 +41,11 @@ pub fn link_again(rows: &mut [u64; 61], more: &mut [u8], lasts: u64, firsts: u64
     again
 }
 
-// One link more from a to each of a set, if there is room.
+// One link more from a to each of a set.
 fn add(more: &mut [u8], a: usize, set: u64)
-    requires { ⌜ (a < 61) × (set < 2 ^ 61) ⌝ }
+    requires { ⌜ (a < 61) × (set < 2 ^ 61) × Room (now more) ⌝ }
     ensures { λ _. ⌜ Further (now (more .entry)) a set (now (more .exit)) ⌝ }
 {
-    if more.len() != 3721 {
-        return;
-    }
     let mut left = set;
     while left != 0 {
         let k = 61 * a + bits::lowest(left);

@@ -13,9 +13,6 @@ use Rattle.graph.specs.Readings.{added}
 
 -- ---- sums cut at a bound
 
-pub cut-turn : (c a x b : ℕ) → min (min (a + x) c + b) c ≡ min (a + (x + b)) c
-cut-turn c a x b = omega arith
-
 cut-times : (c x y : ℕ) → min (min x c * y) c ≡ min (x * y) c
 cut-times c x zero = ap (λ (z : ℕ). min z c) (mul-zero (min x c) ∙ sym (mul-zero x))
 cut-times c x (suc y) =

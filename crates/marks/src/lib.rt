@@ -2,7 +2,7 @@
 use frontier::Sum;
 use graph::Built;
 ghost use mathlib.Core.Path.{_≡_};
-ghost use mathlib.Core.Bool.{true, false};
+ghost use mathlib.Core.Bool.{false};
 ghost use Prim.Native.Nat.{ℕ, _<_, _≤_, _^_};
 ghost use lib.ListN.{length, getD};
 ghost use Rattle.graph.specs.Graph.{Bounded, SingleLinks};
@@ -20,7 +20,7 @@ pub struct Marked {
 // The number of readings of an answer and its mark. A byte that is no letter is held by no position. `more` is the table of the
 // links beyond the first; it is read only where `b.doubled` says that there is one.
 pub fn mark(b: Built, more: &[u8], answer: &[u8]) -> Marked
-    requires { ⌜ Bounded (graphOfBuilt b (now more)) × (b .doubled ≡ false → SingleLinks (graphOfBuilt b (now more))) × (b .doubled ≡ true → length (now more) ≡ 3721) × (length (now answer) ≤ 4096) ⌝ }
+    requires { ⌜ Bounded (graphOfBuilt b (now more)) × (b .doubled ≡ false → SingleLinks (graphOfBuilt b (now more))) × (length (now more) ≡ 3721) × (length (now answer) ≤ 4096) ⌝ }
     ensures { λ r. ⌜ (r .refusal ≡ 0) × Answered (graphOfBuilt b (now (more .entry))) (now (answer .entry)) (r .count) (r .mark) ⌝ }
 {
     let follow = b.follow;
@@ -60,7 +60,7 @@ fn run(
     linked: bool,
     more: &[u8],
 ) -> Sum
-    requires { ⌜ (122 ≤ length (now counts)) × (122 ≤ length (now best)) × (length (now answer) ≤ 4096) × ((b : ℕ) → getD (now holders) b 0 < 2 ^ 61) × (linked ≡ true → 3721 ≤ length (now more)) ⌝ }
+    requires { ⌜ (122 ≤ length (now counts)) × (122 ≤ length (now best)) × (length (now answer) ≤ 4096) × ((b : ℕ) → getD (now holders) b 0 < 2 ^ 61) × (3721 ≤ length (now more)) ⌝ }
     ensures { λ r. ⌜ TablesAnswered (now (holders .entry)) (now (before .entry)) lasts (now (credits .entry)) linked (now (more .entry)) (now (answer .entry)) (r .count) (r .most) ⌝ }
 {
     counts[0] = 1;

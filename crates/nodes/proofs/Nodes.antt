@@ -154,7 +154,7 @@ module _ (alone : ℕ) (seen : List ℕ) (even : Even seen) where
     step-fresh y (beside {a} {b} p) t = new-beside p (sym (taken-pair a b (parts-positions F D S x a b p)) ∙ t)
 
     -- where nothing is found, each node one step on is taken up
-    pub spent : {left : ℕ} {r : Next} (y : ℕ) → Finds F D S alone seen left x r → 4096 ≤ r .node → IsNode x → Gone F D S seen left x → Step F D S x y → taken alone seen y ≡ true
+    pub spent : {pending : ℕ} {r : Next} (y : ℕ) → Finds F D S alone seen pending x r → 4096 ≤ r .node → IsNode x → Gone F D S seen pending x → Step F D S x y → taken alone seen y ≡ true
     spent y f l n g s = by-test (taken alone seen y) (λ t. t) (λ t. absurd (f .none l n g y (step-fresh y s t)))
 
 pub fresh-node : (F D S : List ℕ) (alone : ℕ) (seen : List ℕ) (x y : ℕ) → Fresh F D S alone seen x y → IsNode y
@@ -188,9 +188,9 @@ module _ {S seen : List ℕ} {from to own a m : ℕ} (p : PartnersOf to (getD S 
   pub free-none : m ≡ 0 → Free S seen from to own a b → ⊥
   free-none z f = true≢false (sym (partner-of p b (f .right) (f .share) (f .new) (f .apart)) ∙ ap (λ (x : ℕ). hasBit x b) z ∙ has-none b)
 
--- those of `from` that a loop has passed have none, so that whoever has one is left
-pub free-left : {S seen : List ℕ} {from to own left : ℕ} → Passed from left (λ a. (b : ℕ) → Free S seen from to own a b → ⊥) → (a b : ℕ) → Free S seen from to own a b → hasBit left a ≡ true
-free-left {left = left} p a b f = by-test (hasBit left a) (λ t. t) (λ t. absurd (p .done a (f .left) t b f))
+-- those of `from` that a loop has passed have none, so that whoever has one is pending
+pub free-pending : {S seen : List ℕ} {from to own left : ℕ} → Passed from left (λ a. (b : ℕ) → Free S seen from to own a b → ⊥) → (a b : ℕ) → Free S seen from to own a b → hasBit left a ≡ true
+free-pending {left = left} p a b f = by-test (hasBit left a) (λ t. t) (λ t. absurd (p .done a (f .left) t b f))
 
 -- ---- what is found from a node
 
@@ -199,46 +199,46 @@ node-cases x (one {a} h) = inl h
 node-cases x (two {a} {b} l m h) = inr (omega arith)
 
 -- from what is no node, nothing
-pub find-nothing : {F D S : List ℕ} {alone : ℕ} {seen : List ℕ} {left x : ℕ} → (IsNode x → ⊥) → Finds F D S alone seen left x (record { node = 4096; left = left })
+pub find-nothing : {F D S : List ℕ} {alone : ℕ} {seen : List ℕ} {pending x : ℕ} → (IsNode x → ⊥) → Finds F D S alone seen pending x (record { node = 4096; pending = pending })
 find-nothing f = record { some = λ l. absurd (omega arith); none = λ l n. absurd (f n); gone = λ g. g }
 
 -- a state that is not taken up
-pub find-single : {F D S : List ℕ} {alone : ℕ} {seen : List ℕ} {left x next : ℕ} (new : ℕ) {r : ℕ} → x ≤ 60 → RowOf F x next → ((i : ℕ) → hasBit new i ≡ (hasBit next i && not (hasBit alone i)))
-    → hasBit new r ≡ true → r < 64 → Finds F D S alone seen left x (record { node = r; left = left })
+pub find-single : {F D S : List ℕ} {alone : ℕ} {seen : List ℕ} {pending x next : ℕ} (new : ℕ) {r : ℕ} → x ≤ 60 → RowOf F x next → ((i : ℕ) → hasBit new i ≡ (hasBit next i && not (hasBit alone i)))
+    → hasBit new r ≡ true → r < 64 → Finds F D S alone seen pending x (record { node = r; pending = pending })
 find-single {alone = alone} {next = next} new {r} h row f k m =
     let p = and-parts (hasBit next r) (not (hasBit alone r)) (sym (f r) ∙ k) in
     record { some = λ l. new-single {a = r} (omega arith) (sym (row .bits r) ∙ p .0) (not-true (hasBit alone r) (p .1)); none = λ l. absurd (omega arith); gone = λ g. g }
 
 -- a pair that is not taken up, where states are
-find-pair : {F D S : List ℕ} {alone : ℕ} {seen : List ℕ} {left x all from to own : ℕ} {r : Next} → RowOf F (leftOf x) all → ((a : ℕ) → hasBit from a ≡ (hasBit all a && hasBit left a)) → RowOf F (rightOf x) to
-    → ((a : ℕ) → hasBit all a ≡ true → hasBit own a ≡ (leb 64 x || hasBit (getD D x 0) a)) → ((a : ℕ) → x < 64 → goes F x a ≡ true → hasBit alone a ≡ true) → FindsPair S seen from to own r → Finds F D S alone seen left x r
-find-pair {F} {D} {S} {alone} {seen} {left} {x} {all} {from} {to} {own} {r} row cut right q states d = record {
+find-pair : {F D S : List ℕ} {alone : ℕ} {seen : List ℕ} {pending x all from to own : ℕ} {r : Next} → RowOf F (leftOf x) all → ((a : ℕ) → hasBit from a ≡ (hasBit all a && hasBit pending a)) → RowOf F (rightOf x) to
+    → ((a : ℕ) → hasBit all a ≡ true → hasBit own a ≡ (leb 64 x || hasBit (getD D x 0) a)) → ((a : ℕ) → x < 64 → goes F x a ≡ true → hasBit alone a ≡ true) → FindsPair S seen from to own r → Finds F D S alone seen pending x r
+find-pair {F} {D} {S} {alone} {seen} {pending} {x} {all} {from} {to} {own} {r} row cut right q states d = record {
   some = λ l.
       let p = d .some l in
       let a = p .0 in
       let b = p .1 in
       let w = p .2 in
-      let h = and-parts (hasBit all a) (hasBit left a) (sym (cut a) ∙ w .left) .0 in
+      let h = and-parts (hasBit all a) (hasBit pending a) (sym (cut a) ∙ w .left) .0 in
       subst (Fresh F D S alone seen x) (sym (p .3))
       (new-beside (record { left = sym (row .bits a) ∙ h; right = sym (right .bits b) ∙ w .right; share = w .share; apart = sym (ap (λ (t : Bool). t || not (eqb a b)) (q a h)) ∙ w .apart }) (w .new));
   none = λ l n g y. none l g y;
-  gone = λ g a b p n. by-test (hasBit (getD seen a 0) b) (λ t. t) (λ t. absurd (true≢false (sym (d .left a b (free g a b p t)) ∙ n)));
+  gone = λ g a b p n. by-test (hasBit (getD seen a 0) b) (λ t. t) (λ t. absurd (true≢false (sym (d .pending a b (free g a b p t)) ∙ n)));
 }
   where
     -- a new pair one step on is one of those that were looked at
-    free : Gone F D S seen left x → (a b : ℕ) → Parts F D S x a b → hasBit (getD seen a 0) b ≡ false → Free S seen from to own a b
+    free : Gone F D S seen pending x → (a b : ℕ) → Parts F D S x a b → hasBit (getD seen a 0) b ≡ false → Free S seen from to own a b
     free g a b p e =
         let h = row .bits a ∙ p .left in
-        let k = by-test (hasBit left a) (λ t. t) (λ t. absurd (true≢false (sym (g a b p t) ∙ e))) in
-        record { left = cut a ∙ and-of (hasBit all a) (hasBit left a) h k; right = right .bits b ∙ p .right; share = p .share; new = e; apart = ap (λ (t : Bool). t || not (eqb a b)) (q a h) ∙ p .apart }
+        let k = by-test (hasBit pending a) (λ t. t) (λ t. absurd (true≢false (sym (g a b p t) ∙ e))) in
+        record { left = cut a ∙ and-of (hasBit all a) (hasBit pending a) h k; right = right .bits b ∙ p .right; share = p .share; new = e; apart = ap (λ (t : Bool). t || not (eqb a b)) (q a h) ∙ p .apart }
 
-    none : 4096 ≤ r .node → Gone F D S seen left x → (y : ℕ) → Fresh F D S alone seen x y → ⊥
+    none : 4096 ≤ r .node → Gone F D S seen pending x → (y : ℕ) → Fresh F D S alone seen x y → ⊥
     none l g y (new-single {a} k h e) = true≢false (sym (states a k h) ∙ e)
     none l g y (new-beside {a} {b} p e) = d .none l a b (free g a b p e)
 
 -- from a state whose next states are taken up
-pub find-parting : {F D S : List ℕ} {alone : ℕ} {seen : List ℕ} {left x next from : ℕ} (new : ℕ) {r : Next} → x ≤ 60 → RowOf F x next → ((i : ℕ) → hasBit new i ≡ (hasBit next i && not (hasBit alone i))) → new ≡ 0
-    → ((a : ℕ) → hasBit from a ≡ (hasBit next a && hasBit left a)) → FindsPair S seen from next (getD D x 0) r → Finds F D S alone seen left x r
+pub find-parting : {F D S : List ℕ} {alone : ℕ} {seen : List ℕ} {pending x next from : ℕ} (new : ℕ) {r : Next} → x ≤ 60 → RowOf F x next → ((i : ℕ) → hasBit new i ≡ (hasBit next i && not (hasBit alone i))) → new ≡ 0
+    → ((a : ℕ) → hasBit from a ≡ (hasBit next a && hasBit pending a)) → FindsPair S seen from next (getD D x 0) r → Finds F D S alone seen pending x r
 find-parting {F} {D} {alone = alone} {x = x} {next} new h row f z cut d =
     let low : x < 64 = omega arith in
     find-pair (subst (λ (u : ℕ). RowOf F u next) (sym (left-low x low)) row) cut (subst (λ (u : ℕ). RowOf F u next) (sym (right-low x low)) row)
@@ -253,20 +253,20 @@ find-parting {F} {D} {alone = alone} {x = x} {next} new h row f z cut d =
 pub row-positions : {F : List ℕ} {u m : ℕ} → RowOf F u m → (i : ℕ) → hasBit m i ≡ true → i ≤ 60
 row-positions {F} {u} row i h = goes-parts F u i (sym (row .bits i) ∙ h) .2
 
--- and so are those of them that are left
-pub cut-positions : {F : List ℕ} {u m : ℕ} (left n : ℕ) → RowOf F u m → ((i : ℕ) → hasBit n i ≡ (hasBit m i && hasBit left i)) → (i : ℕ) → hasBit n i ≡ true → i ≤ 60
-cut-positions {m = m} left n row cut i h = row-positions row i (and-parts (hasBit m i) (hasBit left i) (sym (cut i) ∙ h) .0)
+-- and so are those of them that are pending
+pub cut-positions : {F : List ℕ} {u m : ℕ} (pending n : ℕ) → RowOf F u m → ((i : ℕ) → hasBit n i ≡ (hasBit m i && hasBit pending i)) → (i : ℕ) → hasBit n i ≡ true → i ≤ 60
+cut-positions {m = m} pending n row cut i h = row-positions row i (and-parts (hasBit m i) (hasBit pending i) (sym (cut i) ∙ h) .0)
 
 -- from a pair
-pub find-parted : {F D S : List ℕ} {alone : ℕ} {seen : List ℕ} {left x all from to : ℕ} {r : Next} → 64 ≤ x → RowOf F (x / 64) all → ((a : ℕ) → hasBit from a ≡ (hasBit all a && hasBit left a)) → RowOf F (x % 64) to
-    → FindsPair S seen from to (2 ^ 64 - 1) r → Finds F D S alone seen left x r
+pub find-parted : {F D S : List ℕ} {alone : ℕ} {seen : List ℕ} {pending x all from to : ℕ} {r : Next} → 64 ≤ x → RowOf F (x / 64) all → ((a : ℕ) → hasBit from a ≡ (hasBit all a && hasBit pending a)) → RowOf F (x % 64) to
+    → FindsPair S seen from to (2 ^ 64 - 1) r → Finds F D S alone seen pending x r
 find-parted {F} {D} {x = x} {all} {to = to} high row cut right d =
     find-pair (subst (λ (u : ℕ). RowOf F u all) (sym (left-high x high)) row) cut (subst (λ (u : ℕ). RowOf F u to) (sym (right-high x high)) right)
     (λ a l. has-ones 64 a ∙ lt-ltb a 64 (omega (arith, row-positions row a l)) ∙ sym (or-left (leb 64 x) (hasBit (getD D x 0) a) (le-leb 64 x high))) (λ a l. absurd (omega arith)) d
 
--- with all left, nothing need be known
-pub all-left : (F D S seen : List ℕ) (x : ℕ) → Gone F D S seen (2 ^ 64 - 1) x
-all-left F D S seen x a b p n =
+-- with all pending, nothing need be known
+pub all-pending : (F D S seen : List ℕ) (x : ℕ) → Gone F D S seen (2 ^ 64 - 1) x
+all-pending F D S seen x a b p n =
     let l = parts-positions F D S x a b p .left-high in
     absurd (true≢false (sym (has-ones 64 a ∙ lt-ltb a 64 (omega arith)) ∙ n))
 

@@ -68,27 +68,27 @@ pub record Free (S seen : List ℕ) (from to own a b : ℕ) : Type 0 where
 pub record PartnersOf (to shared seen a own m : ℕ) : Type 0 where
   pub bits : (b : ℕ) → hasBit m b ≡ (((hasBit to b && hasBit shared b) && not (hasBit seen b)) && (hasBit own a || not (eqb a b)))
 
--- r is the node of such a pair, or 4096 where there is none; and of each such pair a is left
+-- r is the node of such a pair, or 4096 where there is none; and of each such pair a is pending
 pub record FindsPair (S seen : List ℕ) (from to own : ℕ) (r : Next) : Type 0 where
   pub some : r .node < 4096 → (a : ℕ) × (b : ℕ) × Free S seen from to own a b × (r .node ≡ pack a b)
   pub none : 4096 ≤ r .node → (a b : ℕ) → Free S seen from to own a b → ⊥
-  pub left : (a b : ℕ) → Free S seen from to own a b → hasBit (r .left) a ≡ true
+  pub pending : (a b : ℕ) → Free S seen from to own a b → hasBit (r .pending) a ≡ true
 
 -- a node one step on from x that is not taken up
 pub data Fresh (F D S : List ℕ) (alone : ℕ) (seen : List ℕ) (x : ℕ) : ℕ → Type 0 where
   new-single : {a : ℕ} → x < 64 → goes F x a ≡ true → hasBit alone a ≡ false → Fresh F D S alone seen x a
   new-beside : {a b : ℕ} → Parts F D S x a b → hasBit (getD seen a 0) b ≡ false → Fresh F D S alone seen x (pack a b)
 
--- each pair one step on from x whose first path comes to a position outside the set left is taken up
+-- each pair one step on from x whose first path comes to a position that is not pending is taken up
 abbrev pub Gone : (F D S seen : List ℕ) → ℕ → ℕ → Type 0
-Gone F D S seen left x = (a b : ℕ) → Parts F D S x a b → hasBit left a ≡ false → hasBit (getD seen a 0) b ≡ true
+Gone F D S seen pending x = (a b : ℕ) → Parts F D S x a b → hasBit pending a ≡ false → hasBit (getD seen a 0) b ≡ true
 
--- r is a node one step on from x that is not taken up, or 4096 where there is none, if of pairs only those that are left need be
--- looked at; and what is left then
-pub record Finds (F D S : List ℕ) (alone : ℕ) (seen : List ℕ) (left x : ℕ) (r : Next) : Type 0 where
+-- r is a node one step on from x that is not taken up, or 4096 where there is none, if of pairs only those that are pending need
+-- be looked at; and what is pending then
+pub record Finds (F D S : List ℕ) (alone : ℕ) (seen : List ℕ) (pending x : ℕ) (r : Next) : Type 0 where
   pub some : r .node < 4096 → Fresh F D S alone seen x (r .node)
-  pub none : 4096 ≤ r .node → IsNode x → Gone F D S seen left x → (y : ℕ) → Fresh F D S alone seen x y → ⊥
-  pub gone : Gone F D S seen left x → Gone F D S seen (r .left) x
+  pub none : 4096 ≤ r .node → IsNode x → Gone F D S seen pending x → (y : ℕ) → Fresh F D S alone seen x y → ⊥
+  pub gone : Gone F D S seen pending x → Gone F D S seen (r .pending) x
 
 -- ---- taking up: y is taken up besides, and the states taken up are now r
 pub record TakenUp (seen seen′ : List ℕ) (alone y r : ℕ) : Type 0 where

@@ -11,47 +11,56 @@ ghost use Rattle.nodes.specs.Nodes.{IsNode, pack, RowOf, PartnersOf, Fin
 // Stands for no node.
 pub const NONE: usize = 4096;
 
-// A node, or NONE, and what is left to look at: a pair that is not taken up has its first path at a position of `left`.
+// A node, or NONE, and what is still to be looked at: a pair that is not taken up has its first path at a position of `pending`.
 pub struct Next {
     pub node: usize,
-    pub left: u64,
+    pub pending: u64,
 }
 
 // A node one step on from x that is not taken up. Where x is no node there is none. Of pairs, only those whose first path comes to a
-// position of `left` are looked at.
+// position of `pending` are looked at.
 pub fn next_new<'a>(
     follow: &'a [u64; 61],
     doubles: &'a [u64; 61],
     shares: &'a [u64; 61],
     seen: &'a [u64; 61],
     alone: u64,
-    left: u64,
+    pending: u64,
     x: usize,
 ) -> Next
-    ensures { λ r. ⌜ Finds (now (follow .entry)) (now (doubles .entry)) (now (shares .entry)) alone (now (seen .entry)) left x r ⌝ }
+    ensures { λ r. ⌜ Finds (now (follow .entry)) (now (doubles .entry)) (now (shares .entry)) alone (now (seen .entry)) pending x r ⌝ }
 {
     if x <= 60 {
         let next = row(follow, x);
         let new = bits::difference(next, alone);
         if new != 0 {
             let node = bits::lowest(new);
-            return Next { node, left };
+            return Next { node, pending };
         }
-        let from = bits::intersection(next, left);
+        let from = bits::intersection(next, pending);
         return new_pair(shares, seen, from, next, doubles[x]);
     }
     let a = x / 64;
     let b = x % 64;
     if x < 64 {
-        return Next { node: NONE, left };
+        return Next {
+            node: NONE,
+            pending,
+        };
     }
     if 60 < a {
-        return Next { node: NONE, left };
+        return Next {
+            node: NONE,
+            pending,
+        };
     }
     if 60 < b {
-        return Next { node: NONE, left };
+        return Next {
+            node: NONE,
+            pending,
+        };
     }
-    let from = bits::intersection(row(follow, a), left);
+    let from = bits::intersection(row(follow, a), pending);
     new_pair(shares, seen, from, row(follow, b), u64::MAX)
 }
 
@@ -79,8 +88,8 @@ fn row(follow: &[u64; 61], u: usize) -> u64
     bits::intersection(follow[u], bits::span(1, 61))
 }
 
-// A pair that is not taken up, of a position of `from` and one of `to`; of a position and itself only where `own` has it. What
-// is left of `from` then is without those that have none.
+// A pair that is not taken up, of a position of `from` and one of `to`; of a position and itself only where `own` has it. Those of
+// `from` that have none are pending no more.
 fn new_pair<'a>(shares: &'a [u64; 61], seen: &'a [u64; 61], from: u64, to: u64, own: u64) -> Next
     requires { ⌜ ((i : ℕ) → hasBit from i ≡ true → i ≤ 60) × ((i : ℕ) → hasBit to i ≡ true → i ≤ 60) ⌝ }
     ensures { λ r. ⌜ FindsPair (now (shares .entry)) (now (seen .entry)) from to own r ⌝ }
@@ -91,11 +100,17 @@ fn new_pair<'a>(shares: &'a [u64; 61], seen: &'a [u64; 61], from: u64, to: u64, 
         let new = partners(to, shares[a], seen[a], a, own);
         if new != 0 {
             let node = pair(a, bits::lowest(new));
-            return Next { node, left };
+            return Next {
+                node,
+                pending: left,
+            };
         }
         left = bits::rest(left);
     }
-    Next { node: NONE, left }
+    Next {
+        node: NONE,
+        pending: left,
+    }
 }
 
 // Of the set `to`, the positions that share a letter with a and are not seen beside it; a itself only where `own` has it.

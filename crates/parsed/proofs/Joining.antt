@@ -1,24 +1,22 @@
 -- Results that have shapes: a lettered atom, a repeat, a part and one after it, and nothing before the first. Assumes nothing.
 use mathlib.Core.Path.{_≡_, refl, sym, ap, ap₂, _∙_, subst}
 use mathlib.Core.Bool.{Bool, true, false, _&&_, _||_, not, and-assoc, or-false, or-assoc}
-use mathlib.Core.Logic.{⊎-elim}
 use mathlib.Core.List.{List, [], _∷_, _++_, append-nil, append-assoc}
-use Prim.Native.Nat.{ℕ, zero, suc, _+_, _<_, _≤_, zero-le}
+use Prim.Native.Nat.{ℕ, zero, suc, _+_, _<_, _≤_}
 use native.Mathlib.Nat.{add-zero}
 use native.Mathlib.Numerals.{add-one}
 use native.Mathlib.Omega.{arith}
 use lib.Dec.{eqb, ltb}
-use lib.ListN.{length, getD, length-append}
-use borrow.Author.Tests.{ltb-false}
+use lib.ListN.{length, length-append}
 use Rattle.basics.specs.Choice.{if_then_else_}
-use Rattle.basics.proofs.Tests.{and-parts, or-parts, by-test, if-yes, if-no, le-or-lt}
+use Rattle.basics.proofs.Tests.{and-parts, or-parts}
 use Rattle.bits.specs.Bits.{hasBit}
 use Rattle.alphabet.specs.Alphabet.{someLetter}
 use Rattle.pattern.specs.Parts.{Atom, holds, Repeat, skips, loops, Part, letter, again}
 use Rattle.pattern.specs.Positions.{isFirst, isLast, links}
 use Rattle.pattern.specs.Refusals.{someReversed, anyReversed, anyEmpty}
 use Rattle.parsed.specs.declared.Parsed.{Parsed}
-use Rattle.links.specs.Rows.{kept, Marks, Adds, number, after, Counts, Clear, Room, LinksMore}
+use Rattle.links.specs.Rows.{kept, Marks, Adds, number, after, Counts, Clear, LinksMore}
 use Rattle.parsed.specs.Tables.{Stored}
 use Rattle.parsed.specs.Parsed.{Shape, shapeOf, Memory, memory, Has, nothingRead, Either, Joins}
 use Rattle.parsed.proofs.Shapes.{joinedShape, eitherShape, noShape, Owns}
@@ -36,10 +34,8 @@ has-nothing at n m empty = record {
   reversed = refl;
   hollow = refl;
   adds = adds-none (m .rows);
-  counts = λ room c a b k l. refl;
-  size = refl;
+  counts = λ c a b k l. refl;
   none = λ e. refl;
-  single = λ e a b k l. zero-le;
   stores = λ al l st. subst (λ (x : List Atom). Stored x (m .sets) (m .credits)) (sym (append-nil al)) st;
 }
 
@@ -54,10 +50,8 @@ has-letter n rows more sets credits sets′ credits′ x at own reversed hollow 
   reversed = turned ∙ sym (or-false (someReversed (x .items)));
   hollow = empty ∙ sym (or-false (not (someLetter (holds x))));
   adds = adds-none rows;
-  counts = λ room c a b k l. refl;
-  size = refl;
+  counts = λ c a b k l. refl;
   none = λ e. refl;
-  single = λ e a b k l. zero-le;
   stores = stored;
 }
   where
@@ -69,7 +63,7 @@ has-letter n rows more sets credits sets′ credits′ x at own reversed hollow 
 module _ (n : ℕ) (m : Memory) (rows more sets credits : List ℕ) (p : Part) (a : Parsed) (ha : Has n m (memory rows more sets credits) (shapeOf p) a) where
   -- the result at another place
   pub has-at : (at : ℕ) → Has n m (memory rows more sets credits) (shapeOf p) record { good = a .good; at = at; n = a .n; empty = a .empty; firsts = a .firsts; lasts = a .lasts; reversed = a .reversed; hollow = a .hollow; doubled = a .doubled }
-  has-at at = record { count = ha .count; empty = ha .empty; firsts = ha .firsts; lasts = ha .lasts; reversed = ha .reversed; hollow = ha .hollow; adds = ha .adds; counts = ha .counts; size = ha .size; none = ha .none; single = ha .single; stores = ha .stores }
+  has-at at = record { count = ha .count; empty = ha .empty; firsts = ha .firsts; lasts = ha .lasts; reversed = ha .reversed; hollow = ha .hollow; adds = ha .adds; counts = ha .counts; none = ha .none; stores = ha .stores }
 
   pub has-again : (k : Repeat) (at : ℕ) (skip loop : Bool) → skips k ≡ skip → loops k ≡ loop → (back : ℕ) (rows′ more′ : List ℕ) (second : Bool)
       → ((b : ℕ) → hasBit back b ≡ (hasBit 0 b || (loop && hasBit (a .lasts) b))) → LinksMore rows more back (a .firsts) rows′ more′ second
@@ -85,18 +79,11 @@ module _ (n : ℕ) (m : Memory) (rows more sets credits : List ℕ) (p : Part) (
         adds-more (m .rows) rows rows′ (λ x y. links n p x y) turned (ha .adds)
         (subst (λ (g : ℕ → ℕ → ℕ). Adds rows (λ x y. ltb 0 (g x y)) rows′) (λ i x y. round x y i)
         (adds-one rows rows′ back (a .firsts) (λ x. loop && isLast n p x) (λ y. isFirst n p y) (l .linked) back-marks (ha .firsts)));
-    counts = λ room c.
-        counts-both (m .rows) (m .more) rows more rows′ more′ (λ x y. links n p x y) turned (ha .counts room c)
+    counts = λ c.
+        counts-both (m .rows) (m .more) rows more rows′ more′ (λ x y. links n p x y) turned (ha .counts c)
         (subst (λ (g : ℕ → ℕ → ℕ). Counts rows more g rows′ more′) (λ i x y. round x y i)
-        (counts-one rows more rows′ more′ back (a .firsts) (λ x. loop && isLast n p x) (λ y. isFirst n p y) (l .counts (ha .size ∙ room)) back-marks (ha .firsts)));
-    size = l .size ∙ ha .size;
+        (counts-one rows more rows′ more′ back (a .firsts) (λ x. loop && isLast n p x) (λ y. isFirst n p y) (l .counts) back-marks (ha .firsts)));
     none = λ d. let parts = or-parts (a .doubled) second d in l .none (parts .1) ∙ ha .none (parts .0);
-    single = λ d x y kx ky.
-        let parts = or-parts (a .doubled) second d in
-        let once = ha .single (parts .0) x y kx ky in
-        let turn = loops k && (isLast n p x && isFirst n p y) in
-        by-test turn
-        (λ t. let z = if-yes {A = ℕ} 1 0 turn t in let none = not-linked (parts .1) x y kx ky t in omega arith) (λ t. let z = if-no {A = ℕ} 1 0 turn t in omega arith);
     stores = ha .stores;
   }
     where
@@ -105,15 +92,6 @@ module _ (n : ℕ) (m : Memory) (rows more sets credits : List ℕ) (p : Part) (
 
       turned : ℕ → ℕ → ℕ
       turned x y = if loops k && (isLast n p x && isFirst n p y) then 1 else 0
-
-      -- where no second link was made, what is linked now was not before
-      not-linked : second ≡ false → (x y : ℕ) → kept x ≡ true → kept y ≡ true → (loops k && (isLast n p x && isFirst n p y)) ≡ true → links n p x y ≤ 0
-      not-linked d x y kx ky t =
-          let u = and-parts (loops k) (isLast n p x && isFirst n p y) t in
-          let v = and-parts (isLast n p x) (isFirst n p y) (u .1) in
-          let off = l .first d x y kx ky (back-marks x ∙ ap₂ _&&_ kx (ap₂ _&&_ (sym f ∙ u .0) (v .0))) (ha .firsts y ∙ ap₂ _&&_ ky (v .1)) in
-          let none = or-parts (hasBit (getD (m .rows) x 0) y) ((kept x && kept y) && ltb 0 (links n p x y)) (sym (ha .adds x y) ∙ off) .1 in
-          ltb-false 0 (links n p x y) (ap₂ (λ (i j : Bool). (i && j) && ltb 0 (links n p x y)) (sym kx) (sym ky) ∙ none)
 
       round : (x y : ℕ) → _≡_ {A = ℕ} (if (loop && isLast n p x) && isFirst n p y then 1 else 0) (if loops k && (isLast n p x && isFirst n p y) then 1 else 0)
       round x y =
@@ -156,14 +134,11 @@ module _ (n : ℕ) (m m₁ m₂ : Memory) (p q : Shape) (op : Owns p) (oq : Owns
       (hb .stores (al ++ p .atoms) (omega (arith, l, ha .count, length-append al (p .atoms))) (ha .stores al l st))
 
   -- what the second adds to what the first did
-  second-clear : Room (m .more) → Clear n (m .rows) (m .more) → Clear (n + length (p .atoms)) (m₁ .rows) (m₁ .more)
-  second-clear room c = clear-on n p (m .rows) (m .more) (m₁ .rows) (m₁ .more) op c (ha .counts room c)
+  second-clear : Clear n (m .rows) (m .more) → Clear (n + length (p .atoms)) (m₁ .rows) (m₁ .more)
+  second-clear c = clear-on n p (m .rows) (m .more) (m₁ .rows) (m₁ .more) op c (ha .counts c)
 
-  second-counts : Room (m .more) → Clear n (m .rows) (m .more) → Counts (m₁ .rows) (m₁ .more) (q .links (n + length (p .atoms))) (m₂ .rows) (m₂ .more)
-  second-counts room c = shifted .counts (ha .size ∙ room) (second-clear room c)
-
-  sized : length (m₂ .more) ≡ length (m .more)
-  sized = hb .size ∙ ha .size
+  second-counts : Clear n (m .rows) (m .more) → Counts (m₁ .rows) (m₁ .more) (q .links (n + length (p .atoms))) (m₂ .rows) (m₂ .more)
+  second-counts c = shifted .counts (second-clear c)
 
   -- no link of the one, or of the other, leads from or to positions that are not its own
   first-none : (x y : ℕ) → (((n < x) × (x ≤ n + length (p .atoms))) × ((n < y) × (y ≤ n + length (p .atoms))) → ⊥) → p .links n x y ≡ 0
@@ -175,25 +150,17 @@ module _ (n : ℕ) (m m₁ m₂ : Memory) (p q : Shape) (op : Owns p) (oq : Owns
   second-none : (x y : ℕ) → (((after-first < x) × (x ≤ after-first + length (q .atoms))) × ((after-first < y) × (y ≤ after-first + length (q .atoms))) → ⊥) → q .links after-first x y ≡ 0
   second-none x y d = none (q .links after-first x y) (λ h. d (oq .links after-first x y h))
 
-  -- one link at most within the two, where each has one at most
-  one-within : (x y : ℕ) → p .links n x y ≤ 1 → q .links after-first x y ≤ 1 → p .links n x y + q .links after-first x y ≤ 1
-  one-within x y i j =
-      ⊎-elim (λ l. omega arith) (λ l. let o = op .links n x y l .0 in let e = second-none x y (λ w. let v = w .0 in omega arith) in omega arith) (le-or-lt (p .links n x y) 0)
-
   -- from a last of the first to a first of the second no link leads yet
-  not-yet : Room (m .more) → Clear n (m .rows) (m .more) → (x y : ℕ) → kept x ≡ true → kept y ≡ true → (p .last n x && q .first (n + length (p .atoms)) y) ≡ true → number (m₂ .rows) (m₂ .more) x y ≡ 0
-  not-yet room c x y k l e =
+  not-yet : Clear n (m .rows) (m .more) → (x y : ℕ) → kept x ≡ true → kept y ≡ true → (p .last n x && q .first (n + length (p .atoms)) y) ≡ true → number (m₂ .rows) (m₂ .more) x y ≡ 0
+  not-yet c x y k l e =
       let w = and-parts (p .last n x) (q .first (n + length (p .atoms)) y) e in
       let i = op .lasts n x (w .0) in
       let j = oq .firsts (n + length (p .atoms)) y (w .1) in
-      second-counts room c x y k l
-      ∙ ap₂ after (second-none x y (λ o. let u = o .0 in omega arith)) (ha .counts room c x y k l ∙ ap₂ after (first-none x y (λ o. let u = o .1 in omega arith)) (c x y k l (i .0)))
+      second-counts c x y k l
+      ∙ ap₂ after (second-none x y (λ o. let u = o .0 in omega arith)) (ha .counts c x y k l ∙ ap₂ after (first-none x y (λ o. let u = o .1 in omega arith)) (c x y k l (i .0)))
 
   none-both : (a .doubled ≡ false) × (b .doubled ≡ false) → m₂ .more ≡ m .more
   none-both d = hb .none (d .1) ∙ ha .none (d .0)
-
-  single-both : (a .doubled ≡ false) × (b .doubled ≡ false) → (x y : ℕ) → kept x ≡ true → kept y ≡ true → p .links n x y + q .links after-first x y ≤ 1
-  single-both d x y k l = one-within x y (ha .single (d .0) x y k l) (shifted .single (d .1) x y k l)
 
   pub has-either : (r : Parsed) → Either a b r → Has n m m₂ (eitherShape p q) r
   has-either r e = record {
@@ -204,10 +171,8 @@ module _ (n : ℕ) (m m₁ m₂ : Memory) (p q : Shape) (op : Owns p) (oq : Owns
     reversed = e .follows .reversed ∙ turned;
     hollow = e .follows .hollow ∙ hollowed;
     adds = adds-more (m .rows) (m₁ .rows) (m₂ .rows) (p .links n) (q .links after-first) (ha .adds) (shifted .adds);
-    counts = λ room c. counts-both (m .rows) (m .more) (m₁ .rows) (m₁ .more) (m₂ .rows) (m₂ .more) (p .links n) (q .links after-first) (ha .counts room c) (second-counts room c);
-    size = sized;
+    counts = λ c. counts-both (m .rows) (m .more) (m₁ .rows) (m₁ .more) (m₂ .rows) (m₂ .more) (p .links n) (q .links after-first) (ha .counts c) (second-counts c);
     none = λ d. none-both (or-parts (a .doubled) (b .doubled) (sym (e .doubled) ∙ d));
-    single = λ d. single-both (or-parts (a .doubled) (b .doubled) (sym (e .doubled) ∙ d));
     stores = stored;
   }
 
@@ -226,29 +191,13 @@ module _ (n : ℕ) (m m₁ m₂ : Memory) (p q : Shape) (op : Owns p) (oq : Owns
     adds =
         adds-more (m .rows) (m₁ .rows) rows (p .links n) (λ x y. q .links after-first x y + over x y) (ha .adds)
         (adds-more (m₁ .rows) (m₂ .rows) rows (q .links after-first) over (shifted .adds) (adds-one (m₂ .rows) rows (a .lasts) (b .firsts) (p .last n) (q .first after-first) (e .links) (ha .lasts) (shifted .firsts)));
-    counts = λ room c.
-        counts-both (m .rows) (m .more) (m₁ .rows) (m₁ .more) rows (m₂ .more) (p .links n) (λ x y. q .links after-first x y + over x y) (ha .counts room c)
-        (counts-both (m₁ .rows) (m₁ .more) (m₂ .rows) (m₂ .more) rows (m₂ .more) (q .links after-first) over (second-counts room c)
-        (counts-new (m₂ .rows) rows (a .lasts) (b .firsts) (p .last n) (q .first after-first) (e .links) (ha .lasts) (shifted .firsts) (m₂ .more) (not-yet room c)));
-    size = sized;
+    counts = λ c.
+        counts-both (m .rows) (m .more) (m₁ .rows) (m₁ .more) rows (m₂ .more) (p .links n) (λ x y. q .links after-first x y + over x y) (ha .counts c)
+        (counts-both (m₁ .rows) (m₁ .more) (m₂ .rows) (m₂ .more) rows (m₂ .more) (q .links after-first) over (second-counts c)
+        (counts-new (m₂ .rows) rows (a .lasts) (b .firsts) (p .last n) (q .first after-first) (e .links) (ha .lasts) (shifted .firsts) (m₂ .more) (not-yet c)));
     none = λ d. none-both (or-parts (a .doubled) (b .doubled) (sym (e .doubled) ∙ d));
-    single = λ d x y k l.
-        let both = single-both (or-parts (a .doubled) (b .doubled) (sym (e .doubled) ∙ d)) x y k l in
-        let t = p .last n x && q .first after-first y in
-        by-test t (λ h. alone x y h) (λ h. let z = if-no {A = ℕ} 1 0 t h in omega arith);
     stores = stored;
   }
     where
       over : ℕ → ℕ → ℕ
       over x y = if p .last n x && q .first (n + length (p .atoms)) y then 1 else 0
-
-      -- the link of a joining is the only one
-      alone : (x y : ℕ) → (p .last n x && q .first (n + length (p .atoms)) y) ≡ true → p .links n x y + (q .links (n + length (p .atoms)) x y + over x y) ≤ 1
-      alone x y h =
-          let w = and-parts (p .last n x) (q .first (n + length (p .atoms)) y) h in
-          let i = op .lasts n x (w .0) in
-          let j = oq .firsts (n + length (p .atoms)) y (w .1) in
-          let u = first-none x y (λ o. let r = o .1 in omega arith) in
-          let v = second-none x y (λ o. let r = o .0 in omega arith) in
-          let z = if-yes {A = ℕ} 1 0 (p .last n x && q .first (n + length (p .atoms)) y) h in
-          omega arith

@@ -13,7 +13,7 @@ use Rattle.pattern.specs.Parts.{Atom, Repeat, skips, loops, Part, again}
 use Rattle.pattern.specs.Grammar.{Read, read, broken, peek}
 use Rattle.pattern.specs.Positions.{atoms, canBeEmpty, isFirst, isLast, links}
 use Rattle.pattern.specs.Refusals.{anyReversed, anyEmpty}
-use Rattle.links.specs.Rows.{kept, Marks, Adds, Linked, Counts, Clear, Room}
+use Rattle.links.specs.Rows.{Marks, Adds, Linked, Counts, Clear}
 use Rattle.parsed.specs.declared.Parsed.{Parsed}
 use Rattle.parsed.specs.Tables.{Stored}
 
@@ -42,7 +42,7 @@ abbrev pub memory : List ℕ → List ℕ → List ℕ → List ℕ → Memory
 memory rows more sets credits = record { rows = rows; more = more; sets = sets; credits = credits }
 
 -- the result r has the shape x, with n positions to its left; m is the memory before it, and m′ that with its own added. Links are
--- counted where there is room and none led from a position past n before; where r is not doubled, none is a second one
+-- counted where none led from a position past n before; where r is not doubled, none is counted beyond the first
 pub record Has (n : ℕ) (m m′ : Memory) (x : Shape) (r : Parsed) : Type 0 where
   pub count : r .n ≡ n + length (x .atoms)
   pub empty : r .empty ≡ x .empty
@@ -51,10 +51,8 @@ pub record Has (n : ℕ) (m m′ : Memory) (x : Shape) (r : Parsed) : Type 0 whe
   pub reversed : r .reversed ≡ anyReversed (x .atoms)
   pub hollow : r .hollow ≡ anyEmpty (x .atoms)
   pub adds : Adds (m .rows) (λ a b. ltb 0 (x .links n a b)) (m′ .rows)
-  pub counts : Room (m .more) → Clear n (m .rows) (m .more) → Counts (m .rows) (m .more) (x .links n) (m′ .rows) (m′ .more)
-  pub size : length (m′ .more) ≡ length (m .more)
+  pub counts : Clear n (m .rows) (m .more) → Counts (m .rows) (m .more) (x .links n) (m′ .rows) (m′ .more)
   pub none : r .doubled ≡ false → m′ .more ≡ m .more
-  pub single : r .doubled ≡ false → (a b : ℕ) → kept a ≡ true → kept b ≡ true → x .links n a b ≤ 1
   pub stores : (al : List Atom) → length al ≡ n → Stored al (m .sets) (m .credits) → Stored (al ++ x .atoms) (m′ .sets) (m′ .credits)
 
 -- r is what was parsed of the text s from the place `at` on: it has the shape x, and the text goes on with `rest`

@@ -5,6 +5,7 @@ ghost use mathlib.Core.List.{List};
 ghost use Prim.Native.Nat.{ℕ, _≤_, _<_};
 ghost use lib.ListN.{length, drop};
 ghost use Rattle.pattern.specs.Grammar.{readLetter, repeated};
+ghost use Rattle.links.specs.Rows.{Room};
 ghost use Rattle.parsed.specs.Tables.{Sized};
 ghost use Rattle.parsed.specs.Parsed.{memory, Letters, Changes, Repeats, Stands, nothingRead, Either, Joins, closedRead};
 
@@ -87,7 +88,7 @@ pub fn lettered(
     credits: &mut [u8],
     more: &mut [u8],
 ) -> Parsed
-    requires { ⌜ (n ≤ at) × Sized (now sets) (now credits) × (length (now rows) ≡ 61) ⌝ }
+    requires { ⌜ (n ≤ at) × Sized (now sets) (now credits) × (length (now rows) ≡ 61) × Room (now more) ⌝ }
     ensures { λ r. ⌜ Stands (now (s .entry)) at n (memory (now (rows .entry)) (now (more .entry)) (now (sets .entry)) (now (credits .entry))) (memory (now (rows .exit)) (now (more .exit)) (now (sets .exit)) (now (credits .exit))) (repeated (readLetter (drop at (now (s .entry))))) r
         × (length (now (rows .exit)) ≡ 61) ⌝ }
 {
@@ -111,7 +112,7 @@ pub fn closed(s: &[u8], p: Parsed) -> Parsed
 
 // What repeats an atom, if anything does.
 pub fn repeat(s: &[u8], p: Parsed, rows: &mut [u64; 61], more: &mut [u8]) -> Parsed
-    requires { ⌜ length (now rows) ≡ 61 ⌝ }
+    requires { ⌜ (length (now rows) ≡ 61) × Room (now more) ⌝ }
     ensures { λ r. ⌜ Changes repeated (now (s .entry)) (now (rows .entry)) (now (more .entry)) (now (rows .exit)) (now (more .exit)) p r × (length (now (rows .exit)) ≡ 61) ⌝ }
 {
     if !p.good {
@@ -160,7 +161,7 @@ fn letter(s: &[u8], at: usize, n: usize, sets: &mut [u64], credits: &mut [u8]) -
 
 // The part with its repeat, one byte further: whether it may be left out, and whether it may go round.
 fn again(p: Parsed, rows: &mut [u64; 61], more: &mut [u8], skips: bool, loops: bool) -> Parsed
-    requires { ⌜ (p .at < 18446744073709551615) × (length (now rows) ≡ 61) ⌝ }
+    requires { ⌜ (p .at < 18446744073709551615) × (length (now rows) ≡ 61) × Room (now more) ⌝ }
     ensures { λ r. ⌜ Repeats skips loops (now (rows .entry)) (now (more .entry)) (now (rows .exit)) (now (more .exit)) p r × (length (now (rows .exit)) ≡ 61) ⌝ }
 {
     let mut out = p;

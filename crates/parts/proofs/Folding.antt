@@ -198,7 +198,7 @@ module _ (F : Fold) (s : List ℕ) (at n : ℕ) (m : Memory) where
             enough = let on = y .on in let within = y .within in omega arith;
             shape = F .op x (shapeOf (A .part));
             owns = F .owns x (shapeOf (A .part)) ox (owns-part (A .part));
-            has = record { count = all .count; empty = all .empty; firsts = all .firsts; lasts = all .lasts; reversed = all .reversed; hollow = all .hollow; adds = all .adds; counts = all .counts; size = all .size; none = all .none; single = all .single; stores = all .stores };
+            has = record { count = all .count; empty = all .empty; firsts = all .firsts; lasts = all .lasts; reversed = all .reversed; hollow = all .hollow; adds = all .adds; counts = all .counts; none = all .none; stores = all .stores };
             goes = λ m′ r′ w. goes m′ r′ (subst (λ (R : Read). StandsFor s at n m m′ (R .good) (F .op x (shapeOf (R .part))) (R .rest) r′) (sym is) (more x ox A (F .self d (drop t s)) m′ r′ w));
           }
 

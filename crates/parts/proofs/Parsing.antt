@@ -88,8 +88,7 @@ has-whole k rows more more′ sets credits sets′ credits′ x r h st none = re
   reversed = h .reversed;
   hollow = h .hollow;
   links = links-alone k rows (λ a b. ltb 0 (x .links 0 a b)) (h .adds);
-  numbers = λ room. counts-alone k rows more more′ (x .links 0) none (h .counts (sym (h .size) ∙ room) (λ a b x y l. none-linked k more none a b));
+  numbers = counts-alone k rows more more′ (x .links 0) none (h .counts (λ a b x y l. none-linked k more none a b));
   none = λ d i. ap (λ (l : List ℕ). getD l i 0) (h .none d) ∙ none i;
-  single = h .single;
   stored = h .stores [] refl st;
 }

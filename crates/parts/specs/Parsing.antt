@@ -10,7 +10,7 @@ use Rattle.basics.specs.Choice.{if_then_else_}
 use Rattle.pattern.specs.Parts.{Part}
 use Rattle.pattern.specs.Grammar.{Read, read, broken, peek, readPattern, patternPart}
 use Rattle.pattern.specs.Refusals.{anyReversed, anyEmpty}
-use Rattle.links.specs.Rows.{kept, Marks, Links, number, after, NoneCounted, Room}
+use Rattle.links.specs.Rows.{kept, Marks, Links, number, after, NoneCounted}
 use Rattle.parsed.specs.declared.Parsed.{Parsed}
 use Rattle.parsed.specs.Tables.{Stored}
 use Rattle.parsed.specs.Parsed.{Shape, shapeOf, Memory, Stands}
@@ -45,9 +45,8 @@ pub record Whole (x : Shape) (rows more sets credits : List ℕ) (r : Parsed) : 
   pub reversed : r .reversed ≡ anyReversed (x .atoms)
   pub hollow : r .hollow ≡ anyEmpty (x .atoms)
   pub links : Links rows (λ a b. ltb 0 (x .links 0 a b))
-  pub numbers : Room more → (a b : ℕ) → kept a ≡ true → kept b ≡ true → number rows more a b ≡ after (x .links 0 a b) 0
+  pub numbers : (a b : ℕ) → kept a ≡ true → kept b ≡ true → number rows more a b ≡ after (x .links 0 a b) 0
   pub none : r .doubled ≡ false → NoneCounted more
-  pub single : r .doubled ≡ false → (a b : ℕ) → kept a ≡ true → kept b ≡ true → x .links 0 a b ≤ 1
   pub stored : Stored (x .atoms) sets credits
 
 -- the result stands for what the rules read of the text s, with no position to its left and nothing in the memory before

@@ -9,7 +9,7 @@ ghost use mathlib.Core.List.{[]};
 ghost use Prim.Native.Nat.{_≤_};
 ghost use lib.ListN.{drop};
 ghost use Rattle.pattern.specs.Grammar.{goesOn, patternFrom, branchFrom, pieceFrom};
-ghost use Rattle.links.specs.Rows.{NoneCounted};
+ghost use Rattle.links.specs.Rows.{NoneCounted, Room};
 ghost use Rattle.parsed.specs.Tables.{Sized, Stored};
 ghost use Rattle.parsed.specs.Parsed.{memory};
 ghost use Rattle.parts.specs.Parsing.{Parses, ParsesAll, barNext, Opens};
@@ -22,7 +22,7 @@ pub struct ParsedRows {
 
 // The pattern that s begins with. The whole of s follows the grammar where this is good and ends at the end of s.
 pub fn parse(s: &[u8], sets: &mut [u64], credits: &mut [u8], more: &mut [u8]) -> ParsedRows
-    requires { ⌜ Sized (now sets) (now credits) × Stored [] (now sets) (now credits) × NoneCounted (now more) ⌝ }
+    requires { ⌜ Sized (now sets) (now credits) × Stored [] (now sets) (now credits) × Room (now more) × NoneCounted (now more) ⌝ }
     ensures { λ r. ⌜ ParsesAll (now (s .entry)) (r .rows) (now (more .exit)) (now (sets .exit)) (now (credits .exit)) (r .part) ⌝ }
 {
     let rows = [0u64; 61];
@@ -39,7 +39,7 @@ fn pattern(
     credits: &mut [u8],
     more: &mut [u8],
 ) -> ParsedRows
-    requires { ⌜ (n ≤ at) × Sized (now sets) (now credits) ⌝ }
+    requires { ⌜ (n ≤ at) × Sized (now sets) (now credits) × Room (now more) ⌝ }
     ensures { λ r. ⌜ Parses patternFrom 2 (now (s .entry)) at n (memory rows (now (more .entry)) (now (sets .entry)) (now (credits .entry))) (memory (r .rows) (now (more .exit)) (now (sets .exit)) (now (credits .exit))) (r .part) ⌝ }
 {
     let mut all = rows;
@@ -67,7 +67,7 @@ fn branch(
     credits: &mut [u8],
     more: &mut [u8],
 ) -> ParsedRows
-    requires { ⌜ (n ≤ at) × Sized (now sets) (now credits) ⌝ }
+    requires { ⌜ (n ≤ at) × Sized (now sets) (now credits) × Room (now more) ⌝ }
     ensures { λ r. ⌜ Parses branchFrom 1 (now (s .entry)) at n (memory rows (now (more .entry)) (now (sets .entry)) (now (credits .entry))) (memory (r .rows) (now (more .exit)) (now (sets .exit)) (now (credits .exit))) (r .part) ⌝ }
 {
     let mut all = rows;
@@ -101,7 +101,7 @@ fn piece(
     credits: &mut [u8],
     more: &mut [u8],
 ) -> ParsedRows
-    requires { ⌜ (n ≤ at) × Sized (now sets) (now credits) × Opens (now s) at ⌝ }
+    requires { ⌜ (n ≤ at) × Sized (now sets) (now credits) × Room (now more) × Opens (now s) at ⌝ }
     ensures { λ r. ⌜ Parses pieceFrom 0 (now (s .entry)) at n (memory rows (now (more .entry)) (now (sets .entry)) (now (credits .entry))) (memory (r .rows) (now (more .exit)) (now (sets .exit)) (now (credits .exit))) (r .part) ⌝ }
 {
     let mut p = pattern(s, at + 1, n, rows, sets, credits, more);

@@ -29,7 +29,7 @@ use Rattle.pattern.specs.Grammar.{noAtom}
 use Rattle.pattern.specs.Positions.{atoms, positions, atomAt, isFirst, isLast, links, linksOf, lastOf, graphOf}
 use Rattle.pattern.proofs.Own.{first-own, last-own, follow-own}
 use Rattle.pattern.proofs.Bounds.{graph-bounded}
-use Rattle.links.specs.Rows.{kept, entry, number, after, NoneCounted, Room}
+use Rattle.links.specs.Rows.{kept, entry, number, after, NoneCounted}
 use Rattle.links.proofs.Counting.{after-few}
 use Rattle.parsed.specs.Tables.{atomOf, Stored}
 use Rattle.parsed.specs.Parsed.{shapeOf}
@@ -71,15 +71,13 @@ module _ (p : ParsedRows) (sets credits : List ℕ) (held : List LetterSet) (las
   abbrev made : Built
   made = record { positions = p .part .n; follow = set (p .rows) 0 (p .part .firsts); doubled = p .part .doubled; lasts = lasts; letters = held; credits = credits }
 
-  module _ (x : Part) (more : List ℕ) (w : Whole (shapeOf x) (p .rows) more sets credits (p .part)) (few : positions x ≤ 60) (low : (u i : ℕ) → linksOf x u i ≤ 256) (counted : p .part .doubled ≡ true → Room more) where
+  module _ (x : Part) (more : List ℕ) (w : Whole (shapeOf x) (p .rows) more sets credits (p .part)) (few : positions x ≤ 60) (low : (u i : ℕ) → linksOf x u i ≤ 256) where
     -- no link leads from 0, which is no position
     none-from-0 : (i : ℕ) → links 0 x 0 i ≡ 0
     none-from-0 i = by-test (some (links 0 x 0 i)) (λ e. let o = follow-own x 0 0 i e .0 in absurd (omega arith)) (none-of (links 0 x 0 i))
 
     first-alone : (i : ℕ) → kept i ≡ true → getD more (entry 0 i) 0 ≡ 0
-    first-alone i k =
-        by-test (p .part .doubled)
-        (λ d. let e : number (p .rows) more 0 i ≡ 0 = w .numbers (counted d) 0 i refl k ∙ ap (λ (n : ℕ). after n 0) (none-from-0 i) in omega arith) (λ d. w .none d (entry 0 i))
+    first-alone i k = let e : number (p .rows) more 0 i ≡ 0 = w .numbers 0 i refl k ∙ ap (λ (n : ℕ). after n 0) (none-from-0 i) in omega arith
 
     first-kept : (i : ℕ) → isFirst 0 x i ≡ true → kept i ≡ true
     first-kept i e = let o = first-own x 0 i e in lt-ltb i 61 (omega arith)
@@ -119,12 +117,9 @@ module _ (p : ParsedRows) (sets credits : List ℕ) (held : List LetterSet) (las
         all : 0 < links 0 x (suc u) i → suc (getD more (entry (suc u) i) 0) ≡ links 0 x (suc u) i
         all h =
             let k = link-kept (suc u) i h in
-            by-test (p .part .doubled)
-            (λ d.
-            let e : number (p .rows) more (suc u) i ≡ links 0 x (suc u) i = w .numbers (counted d) (suc u) i (k .0) (k .1) ∙ after-few (links 0 x (suc u) i) (low (suc u) i) in
+            let e : number (p .rows) more (suc u) i ≡ links 0 x (suc u) i = w .numbers (suc u) i (k .0) (k .1) ∙ after-few (links 0 x (suc u) i) (low (suc u) i) in
             let f : number (p .rows) more (suc u) i ≡ 1 + getD more (entry (suc u) i) 0 = ap (λ (b : Bool). (if b then 1 else 0) + getD more (entry (suc u) i) 0) (row-at (suc u) i ∙ lt-ltb 0 (links 0 x (suc u) i) h) in
-            omega arith)
-            (λ d. let one = w .single d (suc u) i (k .0) (k .1) in let none = w .none d (entry (suc u) i) in omega arith)
+            omega arith
 
     last-at : (u : ℕ) → graphOfBuilt made more .last u ≡ lastOf x u
     last-at zero = ends 0 ∙ ap₂ _||_ (w .lasts 0 ∙ no-zero (isLast 0 x 0) (λ e. omega (arith, last-own x 0 0 e))) (and-true (p .part .empty)) ∙ w .empty

@@ -19,7 +19,7 @@ use Rattle.pattern.specs.Grammar.{readPattern, isPattern, patternPart}
 use Rattle.pattern.specs.Positions.{atoms, positions, patternGraph}
 use Rattle.pattern.specs.Refusals.{anyReversed, anyEmpty, patternRefusal, builtGraph}
 use Rattle.parts.specs.Parsing.{ParsesAll}
-use Rattle.reader.specs.Read.{Counted, Reads, Refuses}
+use Rattle.reader.specs.Read.{Reads, Refuses}
 use Rattle.parsed.specs.declared.Parsed.{Parsed}
 use Rattle.reader.specs.declared.ReadPattern.{ReadPattern}
 
@@ -65,8 +65,8 @@ module _ (s : List ℕ) where
       let none : builtGraph s ≡ noGraph = if-no (patternGraph s) noGraph (eqb (patternRefusal s) 0) (ne-eqb (patternRefusal s) 0 (λ z. omega arith)) in
       record {
         refusal = w .refusal ∙ sym is;
-        graph = λ c. w .graph more ∙ sym none;
-        bounded = λ c. subst Bounded (sym (w .graph more)) none-bounded;
+        graph = w .graph more ∙ sym none;
+        bounded = subst Bounded (sym (w .graph more)) none-bounded;
         single = λ d. subst SingleLinks (sym (w .graph more)) (λ u i. refl);
       }
 
@@ -74,14 +74,14 @@ module _ (s : List ℕ) where
   pub no-refusal : Passes 6 → patternRefusal s ≡ 0
   no-refusal h = first-none 3 tests h
 
-  pub accepts : (more : List ℕ) (r : ReadPattern) → Passes 6 → r .refusal ≡ 0 → (Counted (r .built) more → graphOfBuilt (r .built) more ≡ patternGraph s) → Bounded (patternGraph s)
+  pub accepts : (more : List ℕ) (r : ReadPattern) → Passes 6 → r .refusal ≡ 0 → graphOfBuilt (r .built) more ≡ patternGraph s → Bounded (patternGraph s)
       → (r .built .doubled ≡ false → SingleLinks (graphOfBuilt (r .built) more)) → Reads s more r
   accepts more r h z same bounds single =
       let is = no-refusal h in
       record {
         refusal = z ∙ sym is;
-        graph = λ c. same c ∙ sym (if-yes (patternGraph s) noGraph (eqb (patternRefusal s) 0) (eq-eqb (patternRefusal s) 0 is));
-        bounded = λ c. subst Bounded (sym (same c)) bounds;
+        graph = same ∙ sym (if-yes (patternGraph s) noGraph (eqb (patternRefusal s) 0) (eq-eqb (patternRefusal s) 0 is));
+        bounded = subst Bounded (sym same) bounds;
         single = single;
       }
 

@@ -4,7 +4,7 @@ use parts::ParsedRows;
 ghost use mathlib.Core.Path.{_≡_};
 ghost use lib.ListN.{length};
 ghost use Rattle.set_table.specs.Table.{tableSize};
-ghost use Rattle.links.specs.Rows.{NoneCounted};
+ghost use Rattle.links.specs.Rows.{NoneCounted, Room};
 ghost use Rattle.reader.specs.Read.{Reads, Refuses, Builds};
 
 // A pattern that was read: the number of the first refusal, from 3 to 8, that applies to it, and an empty built pattern; or 0,
@@ -15,10 +15,10 @@ pub struct ReadPattern {
 }
 
 // The first refusal that applies to s, or the pattern that it is, built, and in `more`, which has 0 in each entry before, the links
-// beyond the first: entry 61 * u + i is how many of them lead from state u to position i. A table that has not 3,721 entries has no
-// room for them and stays as it is; it does where the built pattern is not `doubled`. At a refusal `more` means nothing.
+// beyond the first: entry 61 * u + i is how many of them lead from state u to position i. Where the built
+// pattern is not `doubled` there are none. At a refusal `more` means nothing.
 pub fn read(s: &[u8], more: &mut [u8]) -> ReadPattern
-    requires { ⌜ NoneCounted (now more) ⌝ }
+    requires { ⌜ Room (now more) × NoneCounted (now more) ⌝ }
     ensures { λ r. ⌜ Reads (now (s .entry)) (now (more .exit)) r ⌝ }
 {
     if s.len() > 512 {

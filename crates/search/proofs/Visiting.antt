@@ -21,7 +21,7 @@ use Rattle.search.specs.declared.Search.{Search}
 use Rattle.nodes.specs.Nodes.{IsNode, one, two, pack, Step, taken, Even, Gone, Finds, TakenUp}
 use Rattle.nodes.specs.declared.Next.{Next}
 use Rattle.search.specs.Search.{queue, backOf, Queued, SoundQueue, SoundSearch, enqueue, isGoal, Visited, Searching}
-use Rattle.nodes.proofs.Nodes.{number, node-low, node-told, step-node, parts-positions, pack-node, taken-low, taken-high, taken-pair, fresh, spent, all-left}
+use Rattle.nodes.proofs.Nodes.{number, node-low, node-told, step-node, parts-positions, pack-node, taken-low, taken-high, taken-pair, fresh, spent, all-pending}
 
 -- ---- the queue after a node is taken up
 
@@ -167,26 +167,26 @@ begun E T s x long node takes =
 -- ---- over rows
 
 -- what is taken up besides leaves gone what was
-gone-on : (F D S : List ℕ) {seen seen′ : List ℕ} {alone y m : ℕ} (left x : ℕ) → Even seen → TakenUp seen seen′ alone y m → Gone F D S seen left x → Gone F D S seen′ left x
-gone-on F D S {seen} {seen′} {alone} {y} {m} left x even up g a b p n =
+gone-on : (F D S : List ℕ) {seen seen′ : List ℕ} {alone y m : ℕ} (pending x : ℕ) → Even seen → TakenUp seen seen′ alone y m → Gone F D S seen pending x → Gone F D S seen′ pending x
+gone-on F D S {seen} {seen′} {alone} {y} {m} pending x even up g a b p n =
     let h = parts-positions F D S x a b p in
     let z = pack a b in
     sym (taken-pair m seen′ (up .even even) a b h) ∙ up .takes even z (pack-node a b h) ∙ or-left (taken alone seen z) (eqb y z) (taken-pair alone seen even a b h ∙ g a b p n)
 
-module _ {F D S s : List ℕ} {h t alone left : ℕ} {seen : List ℕ} (sound : SoundSearch F D S s h t alone left seen) where
+module _ {F D S s : List ℕ} {h t alone pending : ℕ} {seen : List ℕ} (sound : SoundSearch F D S s h t alone pending seen) where
   pub few-taken : t ≤ 1891
   few-taken = few-nodes (sound .queue)
 
-  pub passed-on : h < t → {r : Next} → Finds F D S alone seen left (queue s h) r → 4096 ≤ r .node → SoundSearch F D S s (h + 1) t alone (2 ^ 64 - 1) seen
+  pub passed-on : h < t → {r : Next} → Finds F D S alone seen pending (queue s h) r → 4096 ≤ r .node → SoundSearch F D S s (h + 1) t alone (2 ^ 64 - 1) seen
   passed-on l {r} f k = record {
     queue = passed (sound .queue) l (λ y q. (step-node F D S (queue s h) y q, spent alone seen (sound .even) F D S (queue s h) y f k (sound .queue .nodes h l) (sound .gone) q));
     even = sound .even;
-    gone = all-left F D S seen (queue s (h + 1));
+    gone = all-pending F D S seen (queue s (h + 1));
   }
 
   -- what a visit that takes a node up leaves
-  pub took : {s0 s′ seen′ : List ℕ} {goal : Goal} {r : Next} {m : ℕ} {found : Bool} → s ≡ s0 → h < t → Finds F D S alone seen left (queue s h) r → r .node < 4096 → s′ ≡ enqueue s (r .node) h t → found ≡ isGoal goal (r .node)
-      → TakenUp seen seen′ alone (r .node) m → Visited F D S s0 s′ seen′ goal t (record { head = h; tail = t + 1; found = found; alone = m; left = r .left })
+  pub took : {s0 s′ seen′ : List ℕ} {goal : Goal} {r : Next} {m : ℕ} {found : Bool} → s ≡ s0 → h < t → Finds F D S alone seen pending (queue s h) r → r .node < 4096 → s′ ≡ enqueue s (r .node) h t → found ≡ isGoal goal (r .node)
+      → TakenUp seen seen′ alone (r .node) m → Visited F D S s0 s′ seen′ goal t (record { head = h; tail = t + 1; found = found; alone = m; pending = r .pending })
   took {s′ = s′} {seen′ = seen′} {goal = goal} {r = r} {m = m} same l f k e g up =
       let y = r .node in
       let q = fresh alone seen (sound .even) F D S (queue s h) y (f .some k) in
@@ -200,7 +200,7 @@ module _ {F D S s : List ℕ} {h t alone left : ℕ} {seen : List ℕ} (sound : 
         sound = record {
           queue = subst (λ (x : List ℕ). SoundQueue (Step F D S) T′ x h (t + 1)) (sym e) w;
           even = up .even (sound .even);
-          gone = subst (λ (x : ℕ). Gone F D S seen′ (r .left) x) (sym (old h l)) (gone-on F D S (r .left) (queue s h) (sound .even) up (f .gone (sound .gone)));
+          gone = subst (λ (x : ℕ). Gone F D S seen′ (r .pending) x) (sym (old h l)) (gone-on F D S (r .pending) (queue s h) (sound .even) up (f .gone (sound .gone)));
         };
         kept = λ i k. old i k ∙ ap (λ (x : List ℕ). queue x i) same;
         outcome = inl (refl, g ∙ ap (isGoal goal) (sym (ap (λ (x : List ℕ). queue x t) e ∙ last)));
@@ -210,11 +210,11 @@ module _ {F D S s : List ℕ} {h t alone left : ℕ} {seen : List ℕ} (sound : 
 
 -- the first node is all that is taken up
 pub search-begin : (s : List ℕ) (goal : Goal) (start m : ℕ) (found : Bool) → 4096 ≤ length s → start ≤ 60 → ((j : ℕ) → hasBit m j ≡ eqb start j) → found ≡ isGoal goal start
-    → (F D S s′ : List ℕ) → s′ ≡ enqueue s start 0 0 → Searching F D S s′ (replicate 61 0) goal start (record { head = 0; tail = 1; found = found; alone = m; left = 2 ^ 64 - 1 })
+    → (F D S s′ : List ℕ) → s′ ≡ enqueue s start 0 0 → Searching F D S s′ (replicate 61 0) goal start (record { head = 0; tail = 1; found = found; alone = m; pending = 2 ^ 64 - 1 })
 search-begin s goal start m found long low only g F D S s′ e =
     let first : queue s′ 0 ≡ start = ap (λ (x : List ℕ). queue x 0) e ∙ up-last s start 0 0 long (omega arith) in
     record {
-      sound = record { queue = subst (λ (x : List ℕ). SoundQueue (Step F D S) (taken m (replicate 61 0)) x 0 1) (sym e) (begun (Step F D S) (taken m (replicate 61 0)) s start long (one {a = start} low) takes); even = none-even; gone = all-left F D S (replicate 61 0) (queue s′ 0) };
+      sound = record { queue = subst (λ (x : List ℕ). SoundQueue (Step F D S) (taken m (replicate 61 0)) x 0 1) (sym e) (begun (Step F D S) (taken m (replicate 61 0)) s start long (one {a = start} low) takes); even = none-even; gone = all-pending F D S (replicate 61 0) (queue s′ 0) };
       first = first;
       some = λ f. ap (isGoal goal) first ∙ sym g ∙ f;
       none = λ f i l. let z : i ≡ 0 = omega arith in ap (λ (k : ℕ). isGoal goal (queue s′ k)) z ∙ ap (isGoal goal) first ∙ sym g ∙ f;

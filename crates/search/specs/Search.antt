@@ -39,11 +39,11 @@ pub record SoundQueue (E : ℕ → ℕ → Type 0) (isTaken : ℕ → Bool) (s :
   pub closed : (i : ℕ) → i < head → (y : ℕ) → E (queue s i) y → Queued s tail y
 
 -- such a queue for the steps over the rows F, D and S; pairs are taken up in both of their rows, and those one step on from the head are
--- taken up but for what is left
-pub record SoundSearch (F D S s : List ℕ) (head tail alone left : ℕ) (seen : List ℕ) : Type 0 where
+-- taken up but for what is pending
+pub record SoundSearch (F D S s : List ℕ) (head tail alone pending : ℕ) (seen : List ℕ) : Type 0 where
   pub queue : SoundQueue (Step F D S) (taken alone seen) s head tail
   pub even : Even seen
-  pub gone : Gone F D S seen left (getD s head 0)
+  pub gone : Gone F D S seen pending (getD s head 0)
 
 -- the queue with y at its end, taken up from the one at `from`
 unfoldable pub enqueue : List ℕ → ℕ → ℕ → ℕ → List ℕ
@@ -57,18 +57,18 @@ isGoal goal x =
 
 -- a visit of a search of `tail` nodes: one more is taken up, or the search is over
 pub record Visited (F D S s s′ seen′ : List ℕ) (goal : Goal) (tail : ℕ) (r : Search) : Type 0 where
-  pub sound : SoundSearch F D S s′ (r .head) (r .tail) (r .alone) (r .left) seen′
+  pub sound : SoundSearch F D S s′ (r .head) (r .tail) (r .alone) (r .pending) seen′
   pub kept : (i : ℕ) → i < tail → queue s′ i ≡ queue s i
   pub outcome : ((r .tail ≡ tail + 1) × (r .found ≡ isGoal goal (queue s′ tail))) ⊎ ((r .tail ≡ tail) × (r .head ≡ r .tail) × (r .found ≡ false))
 
 -- a visit of any queue: it takes one node up, or the search is over; where the queue is that of a search, the search goes on
 pub record Tried (F D S s s′ seen seen′ : List ℕ) (goal : Goal) (w r : Search) : Type 0 where
   pub ends : (r .tail ≡ w .tail + 1) ⊎ ((r .tail ≡ w .tail) × (r .tail ≤ r .head))
-  pub right : SoundSearch F D S s (w .head) (w .tail) (w .alone) (w .left) seen → Visited F D S s s′ seen′ goal (w .tail) r
+  pub right : SoundSearch F D S s (w .head) (w .tail) (w .alone) (w .pending) seen → Visited F D S s s′ seen′ goal (w .tail) r
 
 -- a search under way: only the last node taken up may be a goal, and `found` says whether it is
 pub record Searching (F D S s seen : List ℕ) (goal : Goal) (start : ℕ) (w : Search) : Type 0 where
-  pub sound : SoundSearch F D S s (w .head) (w .tail) (w .alone) (w .left) seen
+  pub sound : SoundSearch F D S s (w .head) (w .tail) (w .alone) (w .pending) seen
   pub first : queue s 0 ≡ start
   pub some : w .found ≡ true → isGoal goal (queue s (w .tail - 1)) ≡ true
   pub none : w .found ≡ false → (i : ℕ) → i < w .tail → isGoal goal (queue s i) ≡ false

@@ -11,13 +11,13 @@ ghost use Rattle.shares.specs.Tables.{Rows, Doubles, Shares};
 
 // A search under way. `head` and `tail` bound the queue of nodes taken up whose steps are still to be gone through. `alone` has the
 // states taken up. The pairs taken up are in rows beside it, `seen`, which are lent and not copied. Of the pairs one step on from the
-// head, those whose first path is at a position outside `left` are taken up already.
+// head, those whose first path is at a position outside `pending` are taken up already.
 pub struct Search {
     head: usize,
     pub tail: usize,
     pub found: bool,
     alone: u64,
-    left: u64,
+    pending: u64,
 }
 
 // Where a search is to end: a parted pair in `mask`, or for a search of one path a state in it.
@@ -93,7 +93,7 @@ fn begin(scratch: &mut [u16], goal: Goal, start: usize) -> Search
         tail: 1,
         found: is_goal(goal, start),
         alone: bits::only(start),
-        left: u64::MAX,
+        pending: u64::MAX,
     }
 }
 
@@ -113,7 +113,7 @@ fn visit<'a>(
 {
     let tail = w.tail;
     let mut head = w.head;
-    let mut left = w.left;
+    let mut pending = w.pending;
     let alone = w.alone;
     if BACK <= tail {
         return Search {
@@ -121,12 +121,12 @@ fn visit<'a>(
             tail,
             found: false,
             alone,
-            left,
+            pending,
         };
     }
     while head < tail {
         let x = scratch[head] as usize;
-        let y = nodes::next_new(follow, doubles, shares, &*seen, alone, left, x);
+        let y = nodes::next_new(follow, doubles, shares, &*seen, alone, pending, x);
         if y.node < nodes::NONE {
             push(&mut *scratch, tail, y.node, head);
             return Search {
@@ -134,18 +134,18 @@ fn visit<'a>(
                 tail: tail + 1,
                 found: is_goal(goal, y.node),
                 alone: nodes::take_up(&mut *seen, alone, y.node),
-                left: y.left,
+                pending: y.pending,
             };
         }
         head += 1;
-        left = u64::MAX;
+        pending = u64::MAX;
     }
     Search {
         head,
         tail,
         found: false,
         alone,
-        left,
+        pending,
     }
 }
 

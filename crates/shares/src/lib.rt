@@ -43,7 +43,7 @@ fn share(s: LetterSet, t: LetterSet) -> bool
 // The positions to which two links or more lead from u, for every state u up to `positions`, in rows: those of its row of `follow`
 // with a number above 0 in the table of links beyond the first. Where `doubled` says that there are none, nothing is looked up.
 pub fn double_rows(follow: &[u64; 61], more: &[u8], doubled: bool, positions: usize) -> [u64; 61]
-    requires { ⌜ Within (now follow) × (doubled ≡ true → length (now more) ≡ 3721) × (doubled ≡ false → NoneDoubled (now follow) (now more)) × (positions ≤ 60) ⌝ }
+    requires { ⌜ Within (now follow) × (length (now more) ≡ 3721) × (doubled ≡ false → NoneDoubled (now follow) (now more)) × (positions ≤ 60) ⌝ }
     ensures { λ r. ⌜ ((u i : ℕ) → u ≤ positions → hasBit (getD r u 0) i ≡ isDoubled (now (follow .entry)) (now (more .entry)) u i) ⌝ }
 {
     let mut rows = [0u64; 61];

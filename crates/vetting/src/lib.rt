@@ -3,7 +3,6 @@
 use graph::Built;
 use search::Goal;
 ghost use mathlib.Core.Path.{_≡_};
-ghost use mathlib.Core.Bool.{true};
 ghost use Prim.Native.Nat.{_≤_, _<_};
 ghost use lib.ListN.{length};
 ghost use Rattle.graph.specs.Built.{graphOfBuilt};
@@ -26,7 +25,7 @@ pub struct Vetted {
 // The verdict of a pattern, with its evidence; `more` is the table of its links beyond the first. 4,096 bytes and 4,096 numbers are
 // enough, whatever they hold.
 pub fn vet(b: Built, more: &[u8], evidence: &mut [u8], scratch: &mut [u16]) -> Vetted
-    requires { ⌜ Vettable b (now more) × (b .doubled ≡ true → length (now more) ≡ 3721) × (4096 ≤ length (now evidence)) × (4096 ≤ length (now scratch)) ⌝ }
+    requires { ⌜ Vettable b (now more) × (length (now more) ≡ 3721) × (4096 ≤ length (now evidence)) × (4096 ≤ length (now scratch)) ⌝ }
     ensures { λ r. ⌜ Judged (graphOfBuilt b (now (more .entry))) (now (evidence .entry)) (now (evidence .exit)) r ⌝ }
 {
     let follow = b.follow;

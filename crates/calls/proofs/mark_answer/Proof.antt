@@ -1,8 +1,9 @@
 -- Each refusal by its law, from what reading and the tests say. Where none applies, the graph that was built is the pattern's.
 -- Assumes nothing.
 use mathlib.Core.Path.{_≡_, sym, _∙_}
+use Prim.Native.Nat.{ℕ}
 use native.Mathlib.Omega.{arith}
-use lib.ListN.{length}
+use lib.ListN.{length, length-replicate}
 use borrow.Author.Needs.{needs}
 use borrow.Author.Tests.{not-true, not-false}
 use Rattle.basics.proofs.Lists.{zeros}
@@ -14,7 +15,7 @@ slice-aggregate-read : tie.Need-slice-aggregate-read
 slice-aggregate-read c = search needs
 
 read-requires : tie.Need-read-requires
-read-requires c κs = zeros 3721
+read-requires c κs = (length-replicate {A = ℕ} 3721 0, zeros 3721)
 
 -- there is room for the links beyond the first
 room : (c : tie.After-read) → length (c .read .last .1 .0) ≡ 3721
@@ -62,7 +63,7 @@ slice-aggregate-mark c = search needs
 mark-requires : tie.Need-mark-requires
 mark-requires c κs =
     let q = c .before .before .before .before .before .before .before .before in
-    (q .read .ensures .bounded (λ e. room q), q .read .ensures .single, λ e. room q, c .before .before .before .before .if2 .left)
+    (q .read .ensures .bounded, q .read .ensures .single, room q, c .before .before .before .before .if2 .left)
 
 returns-4 : tie.Need-returns-4
 returns-4 c =
@@ -71,7 +72,7 @@ returns-4 c =
     let a = q .before .before .before .before .args in
     let f = sym (p .refusal) ∙ c .before .before .before .before .before .before .if1 .left in
     let l = c .before .before .before .before .all-letters in
-    says-mark (a .pattern .now) (a .answer .now) _ (c .mark .result) (p .graph (λ e. room q))
+    says-mark (a .pattern .now) (a .answer .now) _ (c .mark .result) (p .graph)
     (accepted (a .pattern .now) (a .answer .now) f (c .before .before .before .before .before .if2 .left) (sym (l .ensures) ∙ not-false (l .result) (c .before .before .before .if3 .left))) (c .mark .ensures)
 
 pub mark-answer-spec : {M : Type 1} → statement M

@@ -1,8 +1,9 @@
 -- Each refusal by its law, with memory as it was; otherwise what the search shows of the graph that was built, which is the
 -- pattern's and trim. Assumes nothing.
 use mathlib.Core.Path.{_≡_, sym, _∙_}
+use Prim.Native.Nat.{ℕ}
 use native.Mathlib.Omega.{arith}
-use lib.ListN.{length}
+use lib.ListN.{length, length-replicate}
 use borrow.Author.Needs.{needs}
 use Rattle.basics.proofs.Lists.{zeros}
 use Rattle.graph.specs.Built.{graphOfBuilt}
@@ -32,7 +33,7 @@ slice-aggregate-read : tie.Need-slice-aggregate-read
 slice-aggregate-read c = search needs
 
 read-requires : tie.Need-read-requires
-read-requires c κs = zeros 3721
+read-requires c κs = (length-replicate {A = ℕ} 3721 0, zeros 3721)
 
 -- there is room for the links beyond the first
 room : (c : tie.After-read) → length (c .read .last .1 .0) ≡ 3721
@@ -58,7 +59,7 @@ vet-requires c κs =
     let a = q .before .before .before .before .before .before .before .args in
     let p = q .read in
     let f = sym (p .ensures .refusal) ∙ c .before .before .before .before .if3 .left in
-    (record { bounded = p .ensures .bounded (λ e. room q); trim = trim-built (a .pattern .now) _ (p .ensures .graph (λ e. room q)) f; single = p .ensures .single }, (λ e. room q), omega arith, omega arith)
+    (record { bounded = p .ensures .bounded; trim = trim-built (a .pattern .now) _ (p .ensures .graph) f; single = p .ensures .single }, room q, omega arith, omega arith)
 
 same-length : tie.Need-same-length
 same-length c = search needs
@@ -77,7 +78,7 @@ returns-4 c =
     let l : length (v .last .1 .1 .1 .0) ≡ length (a .scratch .now) = search needs in
     says-verdict (a .pattern .now) (a .evidence .now) (v .last .1 .1 .0) (a .scratch .now) (v .last .1 .1 .1 .0) (v .result)
     (by-pattern (a .pattern .now) (length (a .evidence .now)) (length (a .scratch .now)) (q .before .before .before .if1 .left) (q .before .before .if2 .left) ∙ f)
-    (answers (a .pattern .now) (a .evidence .now) (v .last .1 .1 .0) (a .scratch .now) (v .last .1 .1 .1 .0) (graphOfBuilt (p .result .built) (p .last .1 .0)) (v .result) (p .ensures .graph (λ e. room q)) f (v .ensures) l)
+    (answers (a .pattern .now) (a .evidence .now) (v .last .1 .1 .0) (a .scratch .now) (v .last .1 .1 .1 .0) (graphOfBuilt (p .result .built) (p .last .1 .0)) (v .result) (p .ensures .graph) f (v .ensures) l)
 
 pub vet-pattern-spec : {M : Type 1} → statement M
 vet-pattern-spec =

@@ -6,7 +6,7 @@ use Rattle.frontier.proofs.gather_for.Statement.{statement}
 use Rattle.frontier.proofs.gather_for.Tie as tie
 
 gather-links-requires : tie.Need-gather-links-requires
-gather-links-requires c κs = let s = c .before .before .before .before in (s .pre .0, s .pre .1, s .pre .2, s .pre .3 (c .if1 .taken), s .pre .4)
+gather-links-requires c κs = search needs
 
 returns : tie.Need-returns
 returns c =

@@ -1,20 +1,18 @@
 -- The loop's invariant: what the rows have and the numbers of links are, with those left to come, is what was to come at the start;
 -- and where none was linked before, no number has changed. The set of those left is the measure. Assumes nothing.
-use mathlib.Core.Path.{_≡_, refl, sym, ap, ap₂, _∙_}
-use mathlib.Core.Bool.{Bool, true, false, not, _&&_, _||_, and-true, and-false, false≢true}
+use mathlib.Core.Path.{_≡_, refl, ap, _∙_}
+use mathlib.Core.Bool.{Bool, true, false, not, _&&_, _||_, and-false}
 use Prim.Native.Nat.{ℕ, _<_, _≤_, _^_}
 use native.Mathlib.Omega.{arith}
 use lib.Dec.{eqb}
 use lib.ListN.{length, getD, length-set}
-use lib.Seq.{getD-set-other}
 use borrow.Author.Needs.{needs}
 use borrow.Author.Tests.{le-ltb, eqb-true, not-false}
 use Rattle.basics.specs.Choice.{if_then_else_}
-use Rattle.basics.proofs.Tests.{and-parts, or-parts, by-equal}
-use Rattle.basics.proofs.Folds.{less-here, less-other}
+use Rattle.basics.proofs.Tests.{or-parts}
 use Rattle.bits.specs.Bits.{hasBit, Least}
-use Rattle.bits.proofs.Laws.{lt-of-high, member-below, has-none}
-use Rattle.links.specs.Rows.{kept, entry, number, after, Room}
+use Rattle.bits.proofs.Laws.{lt-of-high, member-below}
+use Rattle.links.specs.Rows.{kept, entry, number, after}
 use Rattle.links.proofs.Linking.{toCome, link-turn, link-end}
 use Rattle.links.proofs.Counting.{toCount, count-turn, count-end, further-small}
 use Rattle.links.proofs.link_again.Statement.{statement}
@@ -23,10 +21,8 @@ use Rattle.links.proofs.link_again.Tie as tie
 abbrev Inv-loop : tie.InvT-loop
 Inv-loop rows₀ more₀ lasts firsts all ends left₀ again₀ rows more left again =
     (length rows ≡ 61) × (left < 2 ^ 61) × ((a b : ℕ) → toCome rows left firsts a b ≡ toCome rows₀ left₀ firsts a b)
-    × (length more ≡ length more₀) × (Room more₀ → (a b : ℕ) → kept b ≡ true → getD more (entry a b) 0 < 256)
-    × (Room more₀ → (a b : ℕ) → kept b ≡ true → toCount rows more left firsts a b ≡ toCount rows₀ more₀ left₀ firsts a b) × (again ≡ false → more ≡ more₀)
-    × ((a : ℕ) → hasBit left a ≡ true → getD rows a 0 ≡ getD rows₀ a 0)
-    × (again ≡ false → (a b : ℕ) → kept b ≡ true → hasBit left₀ a ≡ true → hasBit left a ≡ false → hasBit firsts b ≡ true → hasBit (getD rows₀ a 0) b ≡ false)
+    × (length more ≡ length more₀) × ((a b : ℕ) → kept b ≡ true → getD more (entry a b) 0 < 256)
+    × ((a b : ℕ) → kept b ≡ true → toCount rows more left firsts a b ≡ toCount rows₀ more₀ left₀ firsts a b) × (again ≡ false → more ≡ more₀)
 
 abbrev μ-loop : tie.MeasureT-loop
 μ-loop rows₀ more₀ lasts firsts all ends left₀ again₀ rows more left again = left
@@ -51,15 +47,13 @@ intersection-requires-2 c κs = search needs
 loop-holds : tie.Need-loop-holds Inv-loop μ-loop
 loop-holds c =
     let start = c .before .before .before .before in (
-      start .pre,
+      start .pre .0,
       lt-of-high 61 (c .intersection2 .result) (c .intersection2 .ok) (few (c .before .before .below .result) (start .args .lasts) (c .intersection2 .result) (c .before .before .below .ensures) (c .intersection2 .ensures)),
       λ a b. refl,
       refl,
-      λ room a b k. omega (arith, c .before .before .before .slice-known .given (entry a b)),
-      λ room a b k. refl,
+      λ a b k. omega (arith, c .before .before .before .slice-known .given (entry a b)),
+      λ a b k. refl,
       λ e. refl,
-      λ a h. refl,
-      λ e a b k h n. absurd (false≢true (sym n ∙ h)),
     )
 
 lowest-requires : tie.Need-lowest-requires Inv-loop μ-loop
@@ -85,6 +79,7 @@ add-requires c κs =
           old .ensures j
           ∙ ap (λ (t : Bool). hasBit (getD (at .rows) (c .before .before .before .lowest .result) 0) j && t) (few (c .before .before .before .before .before .before .before .before .below .result) (c .before .before .before .before .before .before .before .before .before .before .args .firsts) (ends .result) (c .before .before .before .before .before .before .before .before .below .ensures) (ends .ensures) j h)
           ∙ and-false (hasBit (getD (at .rows) (c .before .before .before .lowest .result) 0) j)),
+      at .inv .3 ∙ c .before .before .before .before .before .before .before .before .before .before .pre .1,
     )
 
 mul-union : tie.Need-mul-union Inv-loop μ-loop
@@ -123,27 +118,16 @@ loop-again c =
       omega (arith, at .inv .1, c .rest .ensures .0),
       λ a b. link-turn (at .rows) (at .left) firsts (t .result) (row .result) (c .rest .result) (omega (arith, at .inv .0)) (t .ensures .1) fewer (row .ensures) a b ∙ at .inv .2 a b,
       added .ensures .size ∙ at .inv .3,
-      λ room. further-small (at .more) _ (t .result) (old .result) (at .inv .3 ∙ room) (added .ensures) (at .inv .4 room),
-      λ room a b k.
+      further-small (at .more) _ (t .result) (old .result) (added .ensures) (at .inv .4),
+      λ a b k.
           count-turn (at .rows) (at .more) _ (at .left) firsts (t .result) (row .result) (old .result) (c .rest .result) (omega (arith, at .inv .0)) (t .ensures .1) fewer (row .ensures)
           (λ j l.
           old .ensures j
           ∙ ap (λ (u : Bool). hasBit (getD (at .rows) (t .result) 0) j && u)
           (c .before .before .before .before .before .before .before .before .before .before .before .before .before .intersection .ensures j ∙ ap (λ (u : Bool). u && hasBit firsts j) (c .before .before .before .before .before .before .before .before .before .before .before .before .before .before .below .ensures j ∙ l)))
-          (at .inv .3 ∙ room) (added .ensures) (at .inv .4 room) a b k
-          ∙ at .inv .5 room a b k,
+          (added .ensures) (at .inv .4) a b k
+          ∙ at .inv .5 a b k,
       λ e. let parts = or-parts (at .again) (not (eqb (old .result) 0)) e in added .ensures .none (none parts) ∙ at .inv .6 (parts .0),
-      λ a h. getD-set-other (at .rows) (t .result) a (row .result) 0 (λ z. false≢true (sym (less-here (hasBit (at .left)) (hasBit (c .rest .result)) (t .result) fewer) ∙ ap (hasBit (c .rest .result)) (sym z) ∙ h)) ∙ at .inv .7 a (and-parts (hasBit (at .left) a) (not (eqb (t .result) a)) (sym (fewer a) ∙ h) .0),
-      λ e a b k h n f.
-          let parts = or-parts (at .again) (not (eqb (old .result) 0)) e in
-          by-equal a (t .result)
-          (λ z.
-          let here = hasBit (getD (at .rows) (t .result) 0) b in
-          let ends = c .before .before .before .before .before .before .before .before .before .before .before .before .before .intersection in
-          let end : hasBit (ends .result) b ≡ true = ends .ensures b ∙ ap₂ _&&_ (c .before .before .before .before .before .before .before .before .before .before .before .before .before .before .below .ensures b ∙ k) f in
-          ap (λ (i : ℕ). hasBit (getD (c .before .before .before .before .before .before .before .before .before .before .before .before .before .before .before .before .args .rows .now) i 0) b) z ∙ ap (λ (m : ℕ). hasBit m b) (sym (at .inv .7 (t .result) (t .ensures .1 .here)))
-          ∙ sym (and-true here) ∙ ap (λ (u : Bool). here && u) (sym end) ∙ sym (old .ensures b) ∙ ap (λ (m : ℕ). hasBit m b) (none parts) ∙ has-none b)
-          (λ d. at .inv .8 (parts .0) a b k h (sym (less-other (hasBit (at .left)) (hasBit (c .rest .result)) (t .result) fewer a (λ y. d (sym y))) ∙ n) f),
     )
 
 same-length : tie.Need-same-length Inv-loop μ-loop
@@ -160,13 +144,11 @@ returns c =
           link-end (at .rows) (at .left) (start .firsts) (c .loop-test .left) a b ∙ at .inv .2 a b
           ∙ ap (λ (t : Bool). hasBit (getD (start .rows .now) a 0) b || (t && hasBit (start .firsts) b))
           (left .ensures a ∙ ap (λ (t : Bool). t && hasBit (start .lasts) a) (below .ensures a));
-      counts = λ room a b k l.
-          count-end (at .rows) (at .more) (at .left) (start .firsts) (c .loop-test .left) a b ∙ at .inv .5 room a b l
+      counts = λ a b k l.
+          count-end (at .rows) (at .more) (at .left) (start .firsts) (c .loop-test .left) a b ∙ at .inv .5 a b l
           ∙ ap (λ (t : Bool). after (if t && hasBit (start .firsts) b then 1 else 0) (number (start .rows .now) (start .more .now) a b))
           (left .ensures a ∙ ap (λ (t : Bool). t && hasBit (start .lasts) a) (below .ensures a ∙ k));
       none = at .inv .6;
-      first = λ e a b k l h f.
-          at .inv .8 e a b l (left .ensures a ∙ ap₂ _&&_ (below .ensures a ∙ k) h) (ap (λ (m : ℕ). hasBit m a) (c .loop-test .left) ∙ has-none a) f;
       rows-are = at .inv .0;
       size = at .inv .3;
     }

@@ -3,7 +3,7 @@ use Prim.Native.Nat.{ℕ, _≤_}
 use native.Mathlib.Omega.{arith}
 use Rattle.bits.proofs.Walk.{Passed, passed-start, passed-turn, passed-end}
 use Rattle.nodes.specs.Nodes.{Free}
-use Rattle.nodes.proofs.Nodes.{partner-in, partner-free, free-none, free-left}
+use Rattle.nodes.proofs.Nodes.{partner-in, partner-free, free-none, free-pending}
 use Rattle.nodes.proofs.new_pair.Statement.{statement}
 use Rattle.nodes.proofs.new_pair.Tie as tie
 
@@ -52,7 +52,7 @@ returns c =
     record {
       some = λ _. (a .result, b .result, partner-free (p .ensures) (l .inv .within (a .result) (a .ensures .1 .here)) (b .ensures .1 .here), c .pair .ensures .0);
       none = λ h. absurd (omega (arith, c .pair .ensures .1));
-      left = free-left (l .inv);
+      pending = free-pending (l .inv);
     }
 
 rest-requires : tie.Need-rest-requires Inv-loop μ-loop
@@ -72,7 +72,7 @@ loop-again c =
 returns-2 : tie.Need-returns-2 Inv-loop μ-loop
 returns-2 c =
     let l = c .before .loop in
-    record { some = λ h. absurd (omega arith); none = λ h a b f. passed-end _ (l .left) _ (l .inv) (omega (arith, c .loop-test .left)) a (f .left) b f; left = free-left (l .inv) }
+    record { some = λ h. absurd (omega arith); none = λ h a b f. passed-end _ (l .left) _ (l .inv) (omega (arith, c .loop-test .left)) a (f .left) b f; pending = free-pending (l .inv) }
 
 pub new-pair-spec : {M : Type 1} → statement M
 new-pair-spec =

@@ -15,7 +15,7 @@ abbrev isRepeat : ℕ → Bool
 isRepeat b = eqb b (code "?") || (eqb b (code "*") || eqb b (code "+"))
 
 returns : tie.Need-returns
-returns c = (λ at n m sets credits R w. repeat-bad _ at n m _ _ sets credits R _ w (c .if1 .taken), c .before .before .before .before .pre)
+returns c = (λ at n m sets credits R w. repeat-bad _ at n m _ _ sets credits R _ w (c .if1 .taken), c .before .before .before .before .pre .0)
 
 byte-at-requires : tie.Need-byte-at-requires
 byte-at-requires c κs = search needs
@@ -23,14 +23,14 @@ byte-at-requires c κs = search needs
 returns-2 : tie.Need-returns-2
 returns-2 c =
     let b = c .before .byte-at in
-    (λ at n m sets credits R w. repeat-not _ at n m _ _ sets credits R _ w _ (b .ensures) (c .before .before .if1 .left) (not-true (isRepeat (b .result)) (c .if2 .taken)), c .before .before .before .before .before .before .pre)
+    (λ at n m sets credits R w. repeat-not _ at n m _ _ sets credits R _ w _ (b .ensures) (c .before .before .if1 .left) (not-true (isRepeat (b .result)) (c .if2 .taken)), c .before .before .before .before .before .before .pre .0)
 
 again-requires : tie.Need-again-requires
 again-requires c κs =
     let start = c .before .before .before .before .before .before .before .before in
     let b = c .before .before .before .byte-at in
     let inside = next-within (start .args .s .now) (start .args .p .at) (omega (arith, b .ensures, repeat-byte (b .result) (not-false (isRepeat (b .result)) (c .before .before .if2 .left)))) in
-    (omega arith, start .pre)
+    (omega arith, start .pre .0, start .pre .1)
 
 same-length : tie.Need-same-length
 same-length c = search needs

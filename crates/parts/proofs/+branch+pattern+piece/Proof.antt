@@ -130,10 +130,10 @@ branch-piece-requires : (t : ℕ) → branch-lts.Need-piece-requires (branch-env
 branch-piece-requires t c κs =
     let loop = c .before .before .before .before .before .loop in
     let on = loop .inv .2 .on in
-    (omega arith, (loop .inv .2 .few, loop .inv .1, sym (c .before .before .before .before .byte-at .ensures) ∙ c .before .before .before .if1 .taken))
+    (omega arith, (loop .inv .2 .few, loop .inv .1, loop .inv .3 ∙ c .before .before .before .before .before .before .before .before .before .before .before .pre .1 .2, sym (c .before .before .before .before .byte-at .ensures) ∙ c .before .before .before .if1 .taken))
 
 branch-lettered-requires : (t : ℕ) → branch-lts.Need-lettered-requires (branch-env t) (branch-at t) branch.Post branch-Inv-loop branch-μ-loop
-branch-lettered-requires t c κs = let loop = c .before .before .before .before .before .before .loop in (loop .inv .2 .few, loop .inv .1, loop .inv .0)
+branch-lettered-requires t c κs = let loop = c .before .before .before .before .before .before .loop in (loop .inv .2 .few, loop .inv .1, loop .inv .0, loop .inv .3 ∙ c .before .before .before .before .before .before .before .before .before .before .before .before .pre .1 .2)
 
 branch-join-requires : (t : ℕ) → branch-lts.Need-join-requires (branch-env t) (branch-at t) branch.Post branch-Inv-loop branch-μ-loop
 branch-join-requires t c κs = next-rows t (c .before)
@@ -180,7 +180,7 @@ pattern-branch-requires : (t : ℕ) → pattern-lts.Need-branch-requires (patter
 pattern-branch-requires t c κs =
     let loop = c .before .before .before .loop in
     let on = loop .inv .2 .on in
-    (omega arith, (loop .inv .2 .few, loop .inv .1))
+    (omega arith, (loop .inv .2 .few, loop .inv .1, loop .inv .3 ∙ c .before .before .before .before .before .before .before .before .before .pre .1 .2))
 
 pattern-either-requires : (t : ℕ) → pattern-lts.Need-either-requires (pattern-env t) (pattern-at t) pattern.Post pattern-Inv-loop pattern-μ-loop
 pattern-either-requires t c κs = search needs
@@ -230,14 +230,14 @@ pattern-loop-again t c =
 piece-add-pattern : (t : ℕ) → piece-lts.Need-add-pattern (piece-env t) (piece-at t) piece.Post
 piece-add-pattern t c =
     let start = c .before .before .before .before in
-    let inside = next-within (start .args .s .now) (start .args .at) (omega (arith, start .pre .1 .2)) in
+    let inside = next-within (start .args .s .now) (start .args .at) (omega (arith, start .pre .1 .3)) in
     omega arith
 
 piece-pattern-requires : (t : ℕ) → piece-lts.Need-pattern-requires (piece-env t) (piece-at t) piece.Post
 piece-pattern-requires t c κs =
     let start = c .before .before .before .before .before .before .before in
-    let inside = next-within (start .args .s .now) (start .args .at) (omega (arith, start .pre .1 .2)) in
-    (omega arith, (omega arith, start .pre .1 .1))
+    let inside = next-within (start .args .s .now) (start .args .at) (omega (arith, start .pre .1 .3)) in
+    (omega arith, (omega arith, start .pre .1 .1, start .pre .1 .2))
 
 piece-closed-requires : (t : ℕ) → piece-lts.Need-closed-requires (piece-env t) (piece-at t) piece.Post
 piece-closed-requires t c κs = search needs
@@ -255,7 +255,7 @@ piece-same-length-3 : (t : ℕ) → piece-lts.Need-same-length-3 (piece-env t) (
 piece-same-length-3 t c = search needs
 
 piece-returns : (t : ℕ) → piece-lts.Need-returns (piece-env t) (piece-at t) piece.Post
-piece-returns t c = piece-open _ _ _ _ _ _ _ _ _ _ _ _ _ (c .before .before .before .before .before .before .before .before .before .before .before .before .before .before .before .before .before .before .before .before .before .pre .1 .2) (c .before .before .before .before .before .before .before .before .before .before .before .before .before .pattern .ensures) (c .before .before .before .before .before .closed .ensures _ _) (c .before .before .repeat .ensures .0)
+piece-returns t c = piece-open _ _ _ _ _ _ _ _ _ _ _ _ _ (c .before .before .before .before .before .before .before .before .before .before .before .before .before .before .before .before .before .before .before .before .before .pre .1 .3) (c .before .before .before .before .before .before .before .before .before .before .before .before .before .pattern .ensures) (c .before .before .before .before .before .closed .ensures _ _) (c .before .before .repeat .ensures .0)
 
 pub +branch+pattern+piece-spec : {M : Type 1} → statement M
 +branch+pattern+piece-spec = close μ-branch μ-pattern μ-piece (λ t. branch-lts.spec (branch-env t)

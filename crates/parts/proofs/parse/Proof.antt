@@ -8,7 +8,7 @@ use Rattle.parts.proofs.parse.Statement.{statement}
 use Rattle.parts.proofs.parse.Tie as tie
 
 pattern-requires : tie.Need-pattern-requires
-pattern-requires c κs = let pre = c .before .before .before .before .before .before .before .pre in (omega arith, pre .0)
+pattern-requires c κs = let pre = c .before .before .before .before .before .before .before .pre in (omega arith, pre .0, pre .2)
 
 same-length : tie.Need-same-length
 same-length c = search needs
@@ -28,7 +28,7 @@ returns c =
       same = w .same;
       within = λ g. w .gives g .within;
       rest = λ g. w .gives g .goes;
-      has = λ g. has-whole 61 _ _ _ _ _ _ _ _ _ (w .gives g .has) (start .pre .1) (start .pre .2);
+      has = λ g. has-whole 61 _ _ _ _ _ _ _ _ _ (w .gives g .has) (start .pre .1) (start .pre .3);
     }
 
 pub parse-spec : {M : Type 1} → statement M

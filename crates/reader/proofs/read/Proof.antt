@@ -95,7 +95,7 @@ slice-aggregate-parse-2 c = search needs
 parse-requires : tie.Need-parse-requires
 parse-requires c κs =
     let empty = c .before .before .before .empty .ensures in
-    (record { sets-are = empty .0; credits-are = refl }, none-stored (c .before .before .before .empty .result) (empty .1), c .before .before .before .before .before .before .before .before .before .pre)
+    (record { sets-are = empty .0; credits-are = refl }, none-stored (c .before .before .before .empty .result) (empty .1), c .before .before .before .before .before .before .before .before .before .pre .0, c .before .before .before .before .before .before .before .before .before .pre .1)
 
 refused-requires-3 : tie.Need-refused-requires-3
 refused-requires-3 c κs = search needs
@@ -162,7 +162,7 @@ returns-7 c =
     let l = few (c .before .before) in
     let passes = passes-6 (c .before .before) in
     let made = c .accepted .ensures .1 in
-    accepts s _ _ passes (c .accepted .ensures .0) (λ k. made .graph (patternPart s) _ w l (links-few s (no-refusal s passes)) k) (stored-bounded (patternPart s) _ _ (w .stored) l)
+    accepts s _ _ passes (c .accepted .ensures .0) (made .graph (patternPart s) _ w l (links-few s (no-refusal s passes))) (stored-bounded (patternPart s) _ _ (w .stored) l)
     (λ d. single-shown (c .accepted .result .built) (is .before .before .before .before .before .before .before .before .parse .last .1 .1 .1 .0) (w .none (sym (made .doubled) ∙ d)))
 
 pub read-spec : {M : Type 1} → statement M

@@ -14,11 +14,11 @@ use Rattle.search.proofs.visit.Statement.{statement}
 use Rattle.search.proofs.visit.Tie as tie
 
 abbrev Inv-loop : tie.InvT-loop
-Inv-loop follow doubles shares seen₀ scratch₀ goal tail head₀ left₀ alone seen scratch head left =
-    (scratch ≡ scratch₀) × (SoundSearch follow doubles shares scratch₀ head₀ tail alone left₀ seen₀ → SoundSearch follow doubles shares scratch head tail alone left seen)
+Inv-loop follow doubles shares seen₀ scratch₀ goal tail head₀ pending₀ alone seen scratch head pending =
+    (scratch ≡ scratch₀) × (SoundSearch follow doubles shares scratch₀ head₀ tail alone pending₀ seen₀ → SoundSearch follow doubles shares scratch head tail alone pending seen)
 
 abbrev μ-loop : tie.MeasureT-loop
-μ-loop follow doubles shares seen₀ scratch₀ goal tail head₀ left₀ alone seen scratch head left = tail - head
+μ-loop follow doubles shares seen₀ scratch₀ goal tail head₀ pending₀ alone seen scratch head pending = tail - head
 
 returns : tie.Need-returns Inv-loop μ-loop
 returns c = record { ends = inr (refl, le-refl (c .before .before .args .w .tail)); right = λ w. absurd (omega (arith, c .if1 .taken, few-taken w)) }

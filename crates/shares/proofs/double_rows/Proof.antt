@@ -3,7 +3,7 @@ use mathlib.Core.Path.{_≡_, refl, sym, ap, _∙_}
 use mathlib.Core.Bool.{Bool, _&&_}
 use Prim.Native.Nat.{ℕ, _+_, _-_, _*_, _≤_, _<_}
 use native.Mathlib.Omega.{arith}
-use borrow.Author.Tests.{not-true, not-false}
+use borrow.Author.Tests.{not-true}
 use lib.ListN.{getD, length, length-set}
 use Rattle.basics.proofs.Lists.{zeros}
 use Rattle.bits.specs.Bits.{hasBit}
@@ -41,7 +41,7 @@ element-copy-out-double-row c = omega (arith, low c)
 double-row-requires : tie.Need-double-row-requires Inv-loop μ-loop
 double-row-requires c κs =
     let s = c .before .before .before .before .before in
-    (s .pre .0 (c .before .before .loop .u), s .pre .1 (not-false (s .args .doubled) (c .before .before .before .if1 .left)), low (c .before))
+    (s .pre .0 (c .before .before .loop .u), s .pre .1, low (c .before))
 
 mul-rows : tie.Need-mul-rows Inv-loop μ-loop
 mul-rows c = omega (arith, low (c .before .before))
