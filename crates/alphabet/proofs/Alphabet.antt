@@ -1,5 +1,6 @@
 -- A set of letters, given by its test: whether it has one, and the lowest it has. Assumes nothing.
 use mathlib.Core.Path.{_≡_, refl, sym, ap, _∙_}
+use mathlib.Core.Logic.{⊎-elim}
 use mathlib.Core.Bool.{Bool, true, false, _&&_, _||_, false≢true}
 use mathlib.Core.List.{List}
 use Prim.Native.Nat.{ℕ, zero, suc, _+_, _≤_, _<_}
@@ -8,9 +9,9 @@ use native.Mathlib.Numerals.{add-one}
 use lib.Dec.{leb}
 use lib.ListN.{length, getD, drop}
 use lib.Seq.{drop-cons}
-use borrow.Author.Tests.{leb-true, le-leb}
+use borrow.Author.Tests.{leb-true}
 use Rattle.basics.specs.Choice.{if_then_else_}
-use Rattle.basics.proofs.Tests.{and-parts, and-of, or-left, or-right, by-equal}
+use Rattle.basics.proofs.Tests.{and-parts, and-of, or-cases, or-left, or-right, by-equal}
 use Rattle.alphabet.specs.Alphabet.{isLetter, allLetters, someFrom, lowestFrom, someLetter, lowestLetter}
 
 -- c is the lowest of the n codes from k on that pass f
@@ -41,24 +42,24 @@ some-from (suc n) k f c l m h =
     let below = some-from n (suc k) f c in
     by-equal k c (λ z. or-left (f k) (someFrom n (suc k) f) (ap f z ∙ h)) (λ z. or-right (f k) (someFrom n (suc k) f) (below (omega arith) (omega arith) h))
 
+-- a letter is one of the 256 codes
+pub letter-code : (c : ℕ) → isLetter c ≡ true → c < 256
+letter-code c i =
+    ⊎-elim (λ h. let m = leb-true c 126 (and-parts (leb 32 c) (leb c 126) h .1) in omega arith)
+    (λ h. let m = leb-true c 255 (and-parts (leb 160 c) (leb c 255) h .1) in omega arith)
+    (or-cases (leb 32 c && leb c 126) (leb 160 c && leb c 255) i)
+
 -- the lowest letter of a set that has one is a letter of it
 pub lowest-letter : (f : ℕ → Bool) → someLetter f ≡ true → (isLetter (lowestLetter f) ≡ true) × (f (lowestLetter f) ≡ true)
-lowest-letter f h =
-    let r = lowest-from 95 32 f h in
-    let l = r .low in
-    let m = r .high in
-    (and-of (leb 32 (lowestLetter f)) (leb (lowestLetter f) 126) (le-leb 32 (lowestLetter f) l) (le-leb (lowestLetter f) 126 (omega arith)), r .here)
+lowest-letter f h = and-parts (isLetter (lowestLetter f)) (f (lowestLetter f)) (lowest-from 256 0 (λ c. isLetter c && f c) h .here)
 
 -- and no letter below it is
 pub lowest-none : (f : ℕ → Bool) → someLetter f ≡ true → (c : ℕ) → isLetter c ≡ true → c < lowestLetter f → f c ≡ false
-lowest-none f h c i l = lowest-from 95 32 f h .none c (leb-true 32 c (and-parts (leb 32 c) (leb c 126) i .0)) l
+lowest-none f h c i l = sym (ap (λ (t : Bool). t && f c) i) ∙ lowest-from 256 0 (λ c. isLetter c && f c) h .none c (omega arith) l
 
 -- a set that holds a letter has one
 pub letter-some : (f : ℕ → Bool) (c : ℕ) → isLetter c ≡ true → f c ≡ true → someLetter f ≡ true
-letter-some f c i h =
-    let p = and-parts (leb 32 c) (leb c 126) i in
-    let m = leb-true c 126 (p .1) in
-    some-from 95 32 f c (leb-true 32 c (p .0)) (omega arith) h
+letter-some f c i h = let l = letter-code c i in some-from 256 0 (λ c. isLetter c && f c) c (omega arith) (omega arith) (and-of (isLetter c) (f c) i h)
 
 -- the letters of a text from a place on
 pub letters-from : (s : List ℕ) (i : ℕ) → i < length s → allLetters (drop i s) ≡ (isLetter (getD s i 0) && allLetters (drop (i + 1) s))

@@ -5,9 +5,9 @@ use Prim.Native.Nat.{ℕ, zero, suc}
 use lib.Dec.{leb}
 use Rattle.basics.specs.Choice.{if_then_else_}
 
--- [Letters] the 95 codes from 32 to 126
+-- [Letters] the 191 codes from 32 to 126 and from 160 to 255
 abbrev pub isLetter : ℕ → Bool
-isLetter c = leb 32 c && leb c 126
+isLetter c = (leb 32 c && leb c 126) || (leb 160 c && leb c 255)
 
 -- [Answers] a text is a list of letters, however long, and may be empty
 abbrev pub allLetters : List ℕ → Bool
@@ -25,8 +25,8 @@ lowestFrom (suc n) c f = if f c then c else lowestFrom n (suc c) f
 
 -- does a letter pass the test: a set, given by its test, has a letter
 abbrev pub someLetter : (ℕ → Bool) → Bool
-someLetter f = someFrom 95 32 f
+someLetter f = someFrom 256 0 (λ c. isLetter c && f c)
 
 -- [Letters shown] of a set: its lowest letter
 abbrev pub lowestLetter : (ℕ → Bool) → ℕ
-lowestLetter f = lowestFrom 95 32 f
+lowestLetter f = lowestFrom 256 0 (λ c. isLetter c && f c)

@@ -1,141 +1,192 @@
--- The laws of hasLetter. The idea: a code is below 32, or 32 + i with i < 64, or 96 + i, and in each of the three places
--- a law of hasLetter is one of hasBit. Assumes nothing.
+-- The laws of hasLetter. The idea: a set is its 192 slots, a slot is i of the low word, or 64 + i of the middle one, or 128 + i of the
+-- high one, and in each of the three a law of inSlot is one of hasBit. Assumes nothing.
 use mathlib.Core.Path.{_≡_, refl, sym, ap, ap₂, _∙_, subst}
 use mathlib.Core.Logic.{⊎-elim}
 use mathlib.Core.Bool.{Bool, true, false, not, _&&_, and-true, and-false, true≢false}
 use Prim.Native.Nat.{ℕ, _+_, _-_, _^_, _≤_, _<_}
 use native.Mathlib.Omega.{arith}
-use borrow.Author.Tests.{lt-ltb, le-ltb, le-leb, lt-leb, ne-eqb}
-use lib.Dec.{eqb, leb}
+use borrow.Author.Tests.{lt-ltb, le-ltb, ne-eqb}
+use lib.Dec.{eqb}
 use lib.Count.{trailingZeros}
 use lib.ListN.{replicate}
-use Rattle.basics.specs.Folds.{Less}
+use Rattle.basics.specs.Folds.{Less, LeastOf}
 use Rattle.basics.proofs.Tests.{le-or-lt, neither-less, and-parts, and-of, by-test, equal-added}
 use Rattle.basics.proofs.Lists.{alike}
 use Rattle.bits.specs.Bits.{hasBit, Least}
 use Rattle.bits.proofs.Laws.{has-none, has-high, least-trailing}
 use Rattle.alphabet.specs.Alphabet.{isLetter, someLetter, lowestLetter}
-use Rattle.letters.specs.LetterSet.{hasLetter, Some, LeastLetter, setAt}
+use Rattle.letters.specs.LetterSet.{hasSlot, slotOf, codeAt, inSlot, hasLetter, Some, LeastLetter, setAt}
 use Rattle.letters.specs.declared.LetterSet.{LetterSet}
 use Rattle.alphabet.proofs.Alphabet.{lowest-letter, lowest-none, letter-some}
+use Rattle.letters.proofs.Slots.{slot-code, by-slots, code-less, code-equal}
 
--- ---- the three places
+-- ---- the three words
 
-pub at-none : (s : LetterSet) (c : ℕ) → c < 32 → hasLetter s c ≡ false
-unfolding hasLetter
-at-none s c h = simp (lt-leb 32 c h)
+pub at-low : (s : LetterSet) (i : ℕ) → i < 64 → inSlot s i ≡ hasBit (s .low) i
+unfolding inSlot
+at-low s i h = simp (lt-ltb i 64 h)
 
-pub at-low : (s : LetterSet) (i : ℕ) → i < 64 → hasLetter s (32 + i) ≡ hasBit (s .low) i
-unfolding hasLetter
-at-low s i h =
-    let a : 32 ≤ 32 + i = omega arith in
-    let b : 32 + i < 96 = omega arith in
-    let e : 32 + i - 32 ≡ i = omega arith in
-    simp (le-leb 32 (32 + i) a, lt-ltb (32 + i) 96 b, e)
+pub at-middle : (s : LetterSet) (i : ℕ) → i < 64 → inSlot s (64 + i) ≡ hasBit (s .middle) i
+unfolding inSlot
+at-middle s i h =
+    let a : 64 ≤ 64 + i = omega arith in
+    let b : 64 + i < 128 = omega arith in
+    let e : 64 + i - 64 ≡ i = omega arith in
+    simp (le-ltb (64 + i) 64 a, lt-ltb (64 + i) 128 b, e)
 
-pub at-high : (s : LetterSet) (i : ℕ) → hasLetter s (96 + i) ≡ hasBit (s .high) i
-unfolding hasLetter
+pub at-high : (s : LetterSet) (i : ℕ) → inSlot s (128 + i) ≡ hasBit (s .high) i
+unfolding inSlot
 at-high s i =
-    let a : 32 ≤ 96 + i = omega arith in
-    let b : 96 ≤ 96 + i = omega arith in
-    let e : 96 + i - 96 ≡ i = omega arith in
-    simp (le-leb 32 (96 + i) a, le-ltb (96 + i) 96 b, e)
+    let a : 64 ≤ 128 + i = omega arith in
+    let b : 128 ≤ 128 + i = omega arith in
+    let e : 128 + i - 128 ≡ i = omega arith in
+    simp (le-ltb (128 + i) 64 a, le-ltb (128 + i) 128 b, e)
 
--- no word reaches past 159
-pub at-past : (s : LetterSet) → s .high < 2 ^ 64 → (c : ℕ) → 160 ≤ c → hasLetter s c ≡ false
-at-past s f c h = subst (λ (d : ℕ). hasLetter s d ≡ false) (omega arith) (at-high s (c - 96) ∙ has-high 64 (s .high) (c - 96) f (omega arith))
+-- no word reaches past slot 191
+pub at-past : (s : LetterSet) → s .high < 2 ^ 64 → (i : ℕ) → inSlot s (192 + i) ≡ false
+at-past s f i = ap (inSlot s) (omega arith) ∙ at-high s (64 + i) ∙ has-high 64 (s .high) (64 + i) f (omega arith)
 
--- cases by the place of a code to the word of the 64 codes from base on; the codes past the low word are 96 + i
-pub by-place : (base : ℕ) (P : ℕ → Type 0) → ((c : ℕ) → c < base → P c) → ((i : ℕ) → i < 64 → P (base + i)) → ((i : ℕ) → P (base + 64 + i)) → (c : ℕ) → P c
-by-place base P a b d c =
-    ⊎-elim (λ h. subst P (omega arith) (d (c - (base + 64))))
-    (λ l. ⊎-elim (λ h. subst P (omega arith) (b (c - base) (omega arith))) (λ k. a c k) (le-or-lt base c)) (le-or-lt (base + 64) c)
+-- cases by the place of a slot to the 64 from base on
+pub by-place : (base : ℕ) (P : ℕ → Type 0) → ((j : ℕ) → j < base → P j) → ((i : ℕ) → i < 64 → P (base + i)) → ((i : ℕ) → P (base + 64 + i)) → (j : ℕ) → P j
+by-place base P a b d j =
+    ⊎-elim (λ h. subst P (omega arith) (d (j - (base + 64))))
+    (λ l. ⊎-elim (λ h. subst P (omega arith) (b (j - base) (omega arith))) (λ k. a j k) (le-or-lt base j)) (le-or-lt (base + 64) j)
 
--- an operation that works bit by bit on the two words works code by code
+-- the slots of equal words
+pub same-from-high : (r s : LetterSet) → r .high ≡ s .high → (i : ℕ) → inSlot r (128 + i) ≡ inSlot s (128 + i)
+same-from-high r s e i = at-high r i ∙ ap (λ (x : ℕ). hasBit x i) e ∙ sym (at-high s i)
+
+pub same-from-middle : (r s : LetterSet) → r .middle ≡ s .middle → r .high ≡ s .high → (i : ℕ) → inSlot r (64 + i) ≡ inSlot s (64 + i)
+same-from-middle r s e f =
+    by-place 0 (λ (i : ℕ). inSlot r (64 + i) ≡ inSlot s (64 + i)) (λ i h. absurd (omega arith)) (λ i h. same i h) (λ i. past i)
+  where
+    same : (i : ℕ) → i < 64 → inSlot r (64 + (0 + i)) ≡ inSlot s (64 + (0 + i))
+    same i h = ap (inSlot r) (omega arith) ∙ at-middle r i h ∙ ap (λ (x : ℕ). hasBit x i) e ∙ sym (ap (inSlot s) (omega arith) ∙ at-middle s i h)
+
+    past : (i : ℕ) → inSlot r (64 + (0 + 64 + i)) ≡ inSlot s (64 + (0 + 64 + i))
+    past i = ap (inSlot r) (omega arith) ∙ same-from-high r s f i ∙ sym (ap (inSlot s) (omega arith))
+
+-- ---- codes by their slots
+
+pub code-in : (s : LetterSet) (i : ℕ) → i < 192 → hasLetter s (codeAt i) ≡ inSlot s i
+unfolding hasLetter
+code-in s i l = let k = slot-code i l in ap₂ _&&_ (k .0) (ap (inSlot s) (k .1))
+
+pub not-in : (s : LetterSet) (c : ℕ) → hasSlot c ≡ false → hasLetter s c ≡ false
+unfolding hasLetter
+not-in s c h = ap (λ (t : Bool). t && inSlot s (slotOf c)) h
+
+pub is-in : (s : LetterSet) (c : ℕ) → hasSlot c ≡ true → hasLetter s c ≡ inSlot s (slotOf c)
+unfolding hasLetter
+is-in s c h = ap (λ (t : Bool). t && inSlot s (slotOf c)) h
+
+-- a set whose slots are those of the codes that pass f
+pub by-codes : (r : LetterSet) (f : ℕ → Bool) → ((i : ℕ) → i < 192 → inSlot r i ≡ f (codeAt i)) → (c : ℕ) → hasLetter r c ≡ (hasSlot c && f c)
+by-codes r f e =
+    by-slots (λ (c : ℕ). hasLetter r c ≡ (hasSlot c && f c)) (λ c h. not-in r c h ∙ sym (ap (λ (t : Bool). t && f c) h))
+    (λ i l. code-in r i l ∙ e i l ∙ sym (ap (λ (t : Bool). t && f (codeAt i)) (slot-code i l .0)))
+
+-- and a set by its three words
+pub by-words : (r : LetterSet) (f : ℕ → Bool) → ((i : ℕ) → i < 64 → hasBit (r .low) i ≡ f (codeAt i)) → ((i : ℕ) → i < 64 → hasBit (r .middle) i ≡ f (codeAt (64 + i)))
+    → ((i : ℕ) → i < 64 → hasBit (r .high) i ≡ f (codeAt (128 + i))) → (c : ℕ) → hasLetter r c ≡ (hasSlot c && f c)
+by-words r f a b d =
+    by-codes r f
+    (by-place 64 (λ (i : ℕ). i < 192 → inSlot r i ≡ f (codeAt i)) (λ i h l. at-low r i h ∙ a i h) (λ i h l. at-middle r i h ∙ b i h)
+    (λ i l. at-high r i ∙ d i (omega arith)))
+
+-- an operation that works bit by bit on the three words works code by code
 pub pointwise : (op : Bool → Bool → Bool) (r s t : LetterSet) → op false false ≡ false
     → ((j : ℕ) → hasBit (r .low) j ≡ op (hasBit (s .low) j) (hasBit (t .low) j))
+    → ((j : ℕ) → hasBit (r .middle) j ≡ op (hasBit (s .middle) j) (hasBit (t .middle) j))
     → ((j : ℕ) → hasBit (r .high) j ≡ op (hasBit (s .high) j) (hasBit (t .high) j))
     → (c : ℕ) → hasLetter r c ≡ op (hasLetter s c) (hasLetter t c)
-pointwise op r s t z a b =
-    by-place 32 (λ (c : ℕ). hasLetter r c ≡ op (hasLetter s c) (hasLetter t c))
-    (λ c h. at-none r c h ∙ sym (ap₂ op (at-none s c h) (at-none t c h) ∙ z))
-    (λ i h. at-low r i h ∙ a i ∙ sym (ap₂ op (at-low s i h) (at-low t i h)))
-    (λ i. at-high r i ∙ b i ∙ sym (ap₂ op (at-high s i) (at-high t i)))
-
--- two empty words are the empty set
-pub zero-none : (s : LetterSet) → s .low ≡ 0 → s .high ≡ 0 → (c : ℕ) → hasLetter s c ≡ false
-zero-none s a b =
-    by-place 32 (λ (c : ℕ). hasLetter s c ≡ false) (at-none s)
-    (λ i h. at-low s i h ∙ ap (λ (x : ℕ). hasBit x i) a ∙ has-none i)
-    (λ i. at-high s i ∙ ap (λ (x : ℕ). hasBit x i) b ∙ has-none i)
-
--- a set of letters by its two words: the 64 codes of the low one are letters, and the first 31 of the high one
-pub by-words : (r : LetterSet) (f : ℕ → Bool) → ((i : ℕ) → i < 64 → hasBit (r .low) i ≡ f (32 + i)) → ((i : ℕ) → i < 31 → hasBit (r .high) i ≡ f (96 + i))
-    → ((i : ℕ) → 31 ≤ i → hasBit (r .high) i ≡ false) → (c : ℕ) → hasLetter r c ≡ (isLetter c && f c)
-by-words r f a b d =
-    by-place 32 (λ (c : ℕ). hasLetter r c ≡ (isLetter c && f c))
-    (λ c h. at-none r c h ∙ sym (ap (λ (t : Bool). t && leb c 126 && f c) (lt-leb 32 c h)))
-    (λ i h. at-low r i h ∙ a i h ∙ letter (32 + i) (omega arith) (omega arith))
-    (λ i.
-    ⊎-elim
-    (λ h. at-high r i ∙ d i h ∙ sym (ap (λ (t : Bool). t && f (96 + i)) (ap (λ (t : Bool). leb 32 (96 + i) && t) (lt-leb (96 + i) 126 (omega arith)) ∙ and-false (leb 32 (96 + i)))))
-    (λ h. at-high r i ∙ b i h ∙ letter (96 + i) (omega arith) (omega arith))
-    (le-or-lt 31 i))
+pointwise op r s t z a b d =
+    by-slots (λ (c : ℕ). hasLetter r c ≡ op (hasLetter s c) (hasLetter t c)) (λ c h. not-in r c h ∙ sym (ap₂ op (not-in s c h) (not-in t c h) ∙ z))
+    (λ i l. code-in r i l ∙ slots i ∙ sym (ap₂ op (code-in s i l) (code-in t i l)))
   where
-    letter : (c : ℕ) → 32 ≤ c → c ≤ 126 → f c ≡ (isLetter c && f c)
-    letter c p q = sym (ap (λ (t : Bool). t && f c) (and-of (leb 32 c) (leb c 126) (le-leb 32 c p) (le-leb c 126 q)))
+    slots : (i : ℕ) → inSlot r i ≡ op (inSlot s i) (inSlot t i)
+    slots =
+        by-place 64 (λ (i : ℕ). inSlot r i ≡ op (inSlot s i) (inSlot t i)) (λ i h. at-low r i h ∙ a i ∙ sym (ap₂ op (at-low s i h) (at-low t i h)))
+        (λ i h. at-middle r i h ∙ b i ∙ sym (ap₂ op (at-middle s i h) (at-middle t i h)))
+        (λ i. at-high r i ∙ d i ∙ sym (ap₂ op (at-high s i) (at-high t i)))
+
+-- three empty words are the empty set
+pub zero-none : (s : LetterSet) → s .low ≡ 0 → s .middle ≡ 0 → s .high ≡ 0 → (c : ℕ) → hasLetter s c ≡ false
+zero-none s a b d c =
+    by-words s (λ k. false) (λ i h. ap (λ (x : ℕ). hasBit x i) a ∙ has-none i) (λ i h. ap (λ (x : ℕ). hasBit x i) b ∙ has-none i)
+    (λ i h. ap (λ (x : ℕ). hasBit x i) d ∙ has-none i) c ∙ and-false (hasSlot c)
 
 -- ---- the word with the lowest letter
 
--- the set has the word m from base on, and no code below base
+-- the set has the word m from slot base on, and no slot below base
 pub record Word (s : LetterSet) (base m : ℕ) : Type 0 where
   pub fits : m < 2 ^ 64
-  pub at : (i : ℕ) → i < 64 → hasLetter s (base + i) ≡ hasBit m i
-  pub below : (c : ℕ) → c < base → hasLetter s c ≡ false
+  pub room : base ≤ 128
+  pub at : (i : ℕ) → i < 64 → inSlot s (base + i) ≡ hasBit m i
+  pub below : (j : ℕ) → j < base → inSlot s j ≡ false
 
-pub low-word : (s : LetterSet) → s .low < 2 ^ 64 → Word s 32 (s .low)
-low-word s f = record { fits = f; at = at-low s; below = at-none s }
+pub low-word : (s : LetterSet) → s .low < 2 ^ 64 → Word s 0 (s .low)
+low-word s f = record { fits = f; room = omega arith; at = λ i h. ap (inSlot s) (omega arith) ∙ at-low s i h; below = λ j h. absurd (omega arith) }
 
-pub high-word : (s : LetterSet) → s .low ≡ 0 → s .high < 2 ^ 64 → Word s 96 (s .high)
-high-word s z f = record { fits = f; at = λ i h. at-high s i; below = none }
+pub middle-word : (s : LetterSet) → s .low ≡ 0 → s .middle < 2 ^ 64 → Word s 64 (s .middle)
+middle-word s z f = record { fits = f; room = omega arith; at = at-middle s; below = λ j h. at-low s j h ∙ ap (λ (x : ℕ). hasBit x j) z ∙ has-none j }
+
+pub high-word : (s : LetterSet) → s .low ≡ 0 → s .middle ≡ 0 → s .high < 2 ^ 64 → Word s 128 (s .high)
+high-word s z y f = record { fits = f; room = omega arith; at = λ i h. at-high s i; below = none }
   where
-    none : (c : ℕ) → c < 96 → hasLetter s c ≡ false
+    none : (j : ℕ) → j < 128 → inSlot s j ≡ false
     none =
-        by-place 32 (λ (c : ℕ). c < 96 → hasLetter s c ≡ false) (λ c h k. at-none s c h)
-        (λ i h k. at-low s i h ∙ ap (λ (x : ℕ). hasBit x i) z ∙ has-none i) (λ i k. absurd (omega arith))
+        by-place 64 (λ (j : ℕ). j < 128 → inSlot s j ≡ false) (λ j h k. at-low s j h ∙ ap (λ (x : ℕ). hasBit x j) z ∙ has-none j)
+        (λ i h k. at-middle s i h ∙ ap (λ (x : ℕ). hasBit x i) y ∙ has-none i) (λ i k. absurd (omega arith))
 
--- where the low word is empty and the set is not, the high word is not
-pub high-some : (s : LetterSet) → s .low ≡ 0 → Some s → 0 < s .high
-high-some s z e = ⊎-elim (λ p. absurd (true≢false (sym (e .here) ∙ zero-none s z (omega arith) (e .code)))) (λ q. q) (le-or-lt (s .high) 0)
+-- where the other words are empty and the set is not, the high word is not
+pub high-some : (s : LetterSet) → s .low ≡ 0 → s .middle ≡ 0 → Some s → 0 < s .high
+high-some s z y e = ⊎-elim (λ p. absurd (true≢false (sym (e .here) ∙ zero-none s z y (omega arith) (e .code)))) (λ q. q) (le-or-lt (s .high) 0)
+
+-- the code of the least slot is the lowest letter
+least-code : (s : LetterSet) (i : ℕ) → i < 192 → LeastOf (inSlot s) i → LeastLetter s (codeAt i)
+least-code s i l k = record { here = code-in s i l ∙ k .here; none = none }
+  where
+    none : (d : ℕ) → d < codeAt i → hasLetter s d ≡ false
+    none d h =
+        by-test (hasSlot d)
+        (λ e. is-in s d e ∙ k .none (slotOf d) (code-less i d e h))
+        (not-in s d)
 
 module _ (s : LetterSet) (base m : ℕ) (w : Word s base m) where
-  -- the word's least member is the set's lowest letter
-  pub least-of : (u : ℕ) → u < 64 → Least m u → LeastLetter s (base + u)
-  least-of u h l = record { here = w .at u h ∙ l .here; none = none }
+  -- the code of the word's least member is the set's lowest letter
+  pub least-of : (u : ℕ) → u < 64 → Least m u → LeastLetter s (codeAt (base + u))
+  least-of u h l = least-code s (base + u) (omega (arith, w .room)) record { here = w .at u h ∙ l .here; none = none }
     where
-      none : (d : ℕ) → d < base + u → hasLetter s d ≡ false
+      none : (j : ℕ) → j < base + u → inSlot s j ≡ false
       none =
-          by-place base (λ (d : ℕ). d < base + u → hasLetter s d ≡ false) (λ d k _. w .below d k) (λ i k j. w .at i k ∙ l .none i (omega arith))
+          by-place base (λ (j : ℕ). j < base + u → inSlot s j ≡ false) (λ j k _. w .below j k) (λ i k j. w .at i k ∙ l .none i (omega arith))
           (λ i k. absurd (omega arith))
 
   pub some-of : 0 < m → Some s
   some-of h =
       let l = least-trailing 64 m h (w .fits) in
-      record { code = base + trailingZeros 64 m; here = least-of (trailingZeros 64 m) (l .0) (l .1) .here }
+      record { code = codeAt (base + trailingZeros 64 m); here = least-of (trailingZeros 64 m) (l .0) (l .1) .here }
 
   -- and with that taken off the word, it is taken off the set
-  pub rest-of : (r : LetterSet) (n : ℕ) → Word r base n → ((i : ℕ) → hasLetter r (base + 64 + i) ≡ hasLetter s (base + 64 + i)) → 0 < m
+  pub rest-of : (r : LetterSet) (n : ℕ) → Word r base n → ((i : ℕ) → inSlot r (base + 64 + i) ≡ inSlot s (base + 64 + i)) → 0 < m
       → ((u : ℕ) → Least m u → Less (hasBit m) u (hasBit n)) → (t : ℕ) → LeastLetter s t → Less (hasLetter s) t (hasLetter r)
   rest-of r n v same h e t l =
       let u = trailingZeros 64 m in
       let k = least-trailing 64 m h (w .fits) in
       let first = least-of u (k .0) (k .1) in
-      let z : t ≡ base + u = neither-less t (base + u) (λ p. true≢false (sym (l .here) ∙ first .none t p)) (λ p. true≢false (sym (first .here) ∙ l .none (base + u) p)) in
-      subst (λ (d : ℕ). Less (hasLetter s) d (hasLetter r)) (sym z)
-      (by-place base (λ (c : ℕ). hasLetter r c ≡ (hasLetter s c && not (eqb (base + u) c)))
-      (λ c p. v .below c p ∙ sym (ap (λ (b : Bool). b && not (eqb (base + u) c)) (w .below c p)))
+      let lowest = codeAt (base + u) in
+      let slots : (j : ℕ) → inSlot r j ≡ (inSlot s j && not (eqb (base + u) j))
+      = by-place base (λ (j : ℕ). inSlot r j ≡ (inSlot s j && not (eqb (base + u) j)))
+      (λ j p. v .below j p ∙ sym (ap (λ (b : Bool). b && not (eqb (base + u) j)) (w .below j p)))
       (λ i p. v .at i p ∙ e u (k .1) i ∙ sym (ap₂ (λ (a b : Bool). a && not b) (w .at i p) (equal-added base u i)))
-      (λ i. same i ∙ sym (ap (λ (b : Bool). hasLetter s (base + 64 + i) && not b) (ne-eqb (base + u) (base + 64 + i) (λ y. omega (arith, k .0))) ∙ and-true (hasLetter s (base + 64 + i)))))
+      (λ i. same i ∙ sym (ap (λ (b : Bool). inSlot s (base + 64 + i) && not b) (ne-eqb (base + u) (base + 64 + i) (λ y. omega (arith, k .0))) ∙ and-true (inSlot s (base + 64 + i)))) in
+      let z : t ≡ lowest = neither-less t lowest (λ p. true≢false (sym (l .here) ∙ first .none t p)) (λ p. true≢false (sym (first .here) ∙ l .none lowest p)) in
+      subst (λ (d : ℕ). Less (hasLetter s) d (hasLetter r)) (sym z)
+      (by-slots (λ (c : ℕ). hasLetter r c ≡ (hasLetter s c && not (eqb lowest c)))
+      (λ c p. not-in r c p ∙ sym (ap (λ (b : Bool). b && not (eqb lowest c)) (not-in s c p)))
+      (λ i p.
+      code-in r i p ∙ slots i ∙ sym (ap₂ (λ (a b : Bool). a && not b) (code-in s i p) (code-equal (base + u) i (omega (arith, w .room, k .0)) p))))
 
 -- ---- a set that holds the letters that pass f, against what the specification says of f
 
@@ -165,4 +216,4 @@ none-same s f same false empty some =
 -- an array of empty sets has no letter
 pub all-empty : (n : ℕ) (none : LetterSet) → ((c : ℕ) → hasLetter none c ≡ false) → (i c : ℕ) → hasLetter (setAt (replicate n none) i) c ≡ false
 all-empty n none empty i c =
-    alike (λ (s : LetterSet). hasLetter s c ≡ false) n none record { low = 0; high = 0 } (empty c) (zero-none record { low = 0; high = 0 } refl refl c) i
+    alike (λ (s : LetterSet). hasLetter s c ≡ false) n none record { low = 0; middle = 0; high = 0 } (empty c) (zero-none record { low = 0; middle = 0; high = 0 } refl refl refl c) i

@@ -1,6 +1,6 @@
 -- A set of letters as the program holds it: what the contracts cite.
 use mathlib.Core.Path.{_≡_}
-use mathlib.Core.Bool.{Bool, true, _&&_}
+use mathlib.Core.Bool.{Bool, true, _&&_, _||_}
 use mathlib.Core.List.{List}
 use Prim.Native.Nat.{ℕ, _+_, _-_}
 use lib.Dec.{ltb, leb}
@@ -10,9 +10,24 @@ use Rattle.basics.specs.Folds.{LeastOf}
 use Rattle.bits.specs.Bits.{hasBit}
 use Rattle.letters.specs.declared.LetterSet.{LetterSet}
 
+-- has the code c a slot in a set, and which: 32 to 127 have 0 to 95, and 160 to 255 have 96 to 191
+unfoldable pub hasSlot : ℕ → Bool
+hasSlot c = (leb 32 c && ltb c 128) || (leb 160 c && ltb c 256)
+
+unfoldable pub slotOf : ℕ → ℕ
+slotOf c = if ltb c 128 then c - 32 else c - 64
+
+-- the code of slot i
+unfoldable pub codeAt : ℕ → ℕ
+codeAt i = if ltb i 96 then 32 + i else 64 + i
+
+-- is the code of slot i in the set s
+unfoldable pub inSlot : LetterSet → ℕ → Bool
+inSlot s i = if ltb i 64 then hasBit (s .low) i else if ltb i 128 then hasBit (s .middle) (i - 64) else hasBit (s .high) (i - 128)
+
 -- is the code c in the set s
 unfoldable pub hasLetter : LetterSet → ℕ → Bool
-hasLetter s c = leb 32 c && (if ltb c 96 then hasBit (s .low) (c - 32) else hasBit (s .high) (c - 96))
+hasLetter s c = hasSlot c && inSlot s (slotOf c)
 
 -- a code is in s
 pub record Some (s : LetterSet) : Type 0 where
@@ -25,8 +40,8 @@ LeastLetter s c = LeastOf (hasLetter s) c
 
 -- a number that falls with each letter taken out
 abbrev pub weight : LetterSet → ℕ
-weight s = s .low + s .high
+weight s = s .low + s .middle + s .high
 
 -- the set of entry i of an array of sets, empty past the last
 abbrev pub setAt : List LetterSet → ℕ → LetterSet
-setAt sets i = getD sets i record { low = 0; high = 0 }
+setAt sets i = getD sets i record { low = 0; middle = 0; high = 0 }

@@ -5,12 +5,14 @@ ghost use mathlib.Core.Bool.{true, false, not, _&&_, _||_};
 ghost use Prim.Native.Nat.{ℕ, _<_};
 ghost use Rattle.basics.specs.Folds.{Less};
 ghost use Rattle.alphabet.specs.Alphabet.{isLetter};
-ghost use Rattle.letters.specs.LetterSet.{hasLetter, Some, LeastLetter, weight};
+ghost use Rattle.letters.specs.LetterSet.{inSlot, hasSlot, slotOf, codeAt, hasLetter, Some, LeastLetter, weight};
 
-// The codes 32 to 95 are bits 0 to 63 of `low`, and 96 to 159 those of `high`, of which only 96 to 126 are letters: the
-// functions that make a set leave the others out. Besides this crate only `ranges` and `set_table` use the two fields.
+// A set has 192 slots, a bit each: 0 to 63 are those of `low`, then come those of `middle` and of `high`. The codes 32 to 127 have the
+// slots 0 to 95, and 160 to 255 have 96 to 191. All of these are letters but 127, slot 95: the functions that make a set
+// leave it out. Besides this crate only `ranges` and `set_table` use the three fields.
 pub struct LetterSet {
     pub low: u64,
+    pub middle: u64,
     pub high: u64,
 }
 
@@ -18,23 +20,41 @@ pub struct LetterSet {
 pub fn empty() -> LetterSet
     ensures { λ r. ⌜ ((c : ℕ) → hasLetter r c ≡ false) ⌝ }
 {
-    LetterSet { low: 0, high: 0 }
+    LetterSet {
+        low: 0,
+        middle: 0,
+        high: 0,
+    }
 }
 
-// Is the code in the set: false for a code that no set can hold.
+// Is the code in the set: false for a code that has no slot.
 pub fn has(s: LetterSet, code: u8) -> bool
     ensures { λ r. ⌜ r ≡ hasLetter s code ⌝ }
 {
     if code < 32 {
         return false;
     }
-    if code < 96 {
-        return bits::has(s.low, (code - 32) as usize);
+    if code < 128 {
+        return has_at(s, (code - 32) as usize);
     }
     if code < 160 {
-        return bits::has(s.high, (code - 96) as usize);
+        return false;
     }
-    false
+    has_at(s, (code - 64) as usize)
+}
+
+// Is the slot's code in the set.
+fn has_at(s: LetterSet, slot: usize) -> bool
+    requires { ⌜ slot < 192 ⌝ }
+    ensures { λ r. ⌜ r ≡ inSlot s slot ⌝ }
+{
+    if slot < 64 {
+        return bits::has(s.low, slot);
+    }
+    if slot < 128 {
+        return bits::has(s.middle, slot - 64);
+    }
+    bits::has(s.high, slot - 128)
 }
 
 // The letters of s and those of t.
@@ -43,6 +63,7 @@ pub fn union(s: LetterSet, t: LetterSet) -> LetterSet
 {
     LetterSet {
         low: s.low | t.low,
+        middle: s.middle | t.middle,
         high: s.high | t.high,
     }
 }
@@ -53,25 +74,45 @@ pub fn intersection(s: LetterSet, t: LetterSet) -> LetterSet
 {
     LetterSet {
         low: s.low & t.low,
+        middle: s.middle & t.middle,
         high: s.high & t.high,
     }
 }
 
-// The letters that are not in s. Each of the 64 codes of `low` is a letter, and the first 31 of `high`.
+// All letters: every slot but that of 127, bit 31 of `middle`.
+pub fn all() -> LetterSet
+    ensures { λ r. ⌜ ((c : ℕ) → hasLetter r c ≡ isLetter c) ⌝ }
+{
+    LetterSet {
+        low: 0xffff_ffff_ffff_ffff,
+        middle: 0xffff_ffff_7fff_ffff,
+        high: 0xffff_ffff_ffff_ffff,
+    }
+}
+
+// The letters that are not in s.
 pub fn complement(s: LetterSet) -> LetterSet
     ensures { λ r. ⌜ ((c : ℕ) → hasLetter r c ≡ (isLetter c && not (hasLetter s c))) ⌝ }
 {
-    LetterSet {
+    let others = LetterSet {
         low: !s.low,
-        high: 0x7fff_ffff & !s.high,
-    }
+        middle: !s.middle,
+        high: !s.high,
+    };
+    intersection(all(), others)
 }
 
 // Has the set no letter.
 pub fn is_empty(s: LetterSet) -> bool
     ensures { λ r. ⌜ (r ≡ true → (c : ℕ) → hasLetter s c ≡ false) × (r ≡ false → Some s) ⌝ }
 {
-    s.low == 0 && s.high == 0
+    if s.low != 0 {
+        return false;
+    }
+    if s.middle != 0 {
+        return false;
+    }
+    s.high == 0
 }
 
 // The lowest letter of a set that is not empty.
@@ -80,9 +121,12 @@ pub fn lowest(s: LetterSet) -> u8
     ensures { λ r. ⌜ LeastLetter s r ⌝ }
 {
     if s.low != 0 {
-        return 32 + bits::lowest(s.low) as u8;
+        return code_at(bits::lowest(s.low));
     }
-    96 + bits::lowest(s.high) as u8
+    if s.middle != 0 {
+        return code_at(64 + bits::lowest(s.middle));
+    }
+    code_at(128 + bits::lowest(s.high))
 }
 
 // All letters but the lowest of a set that is not empty. The weight falls, and is the measure of a loop that takes one
@@ -94,11 +138,42 @@ pub fn rest(s: LetterSet) -> LetterSet
     if s.low != 0 {
         return LetterSet {
             low: bits::rest(s.low),
+            middle: s.middle,
+            high: s.high,
+        };
+    }
+    if s.middle != 0 {
+        return LetterSet {
+            low: 0,
+            middle: bits::rest(s.middle),
             high: s.high,
         };
     }
     LetterSet {
         low: 0,
+        middle: 0,
         high: bits::rest(s.high),
     }
+}
+
+// The slot of a code that has one.
+pub fn slot_of(code: u8) -> usize
+    requires { ⌜ hasSlot code ≡ true ⌝ }
+    ensures { λ r. ⌜ r ≡ slotOf code ⌝ }
+{
+    if code < 128 {
+        return (code - 32) as usize;
+    }
+    (code - 64) as usize
+}
+
+// The code of a slot.
+fn code_at(slot: usize) -> u8
+    requires { ⌜ slot < 192 ⌝ }
+    ensures { λ r. ⌜ r ≡ codeAt slot ⌝ }
+{
+    if slot < 96 {
+        return 32 + slot as u8;
+    }
+    64 + slot as u8
 }

@@ -55,11 +55,33 @@ starred =
     ∷ accepts "a=2b|ab=3" "ab" 2 3
     ∷ accepts "(a=1|a)*" "aaa" 8 3
     ∷ accepts "a?" "" 1 0
+    ∷ accepts "[^ -~]" "é" 1 0
+    ∷ accepts "[^ -~]" "a" 0 0
+    ∷ accepts "é=1t(é|e=1)" "été" 1 1
+    ∷ accepts "é=1t(é|e=1)" "éte" 1 2
+    ∷ accepts "é=1t(é|e=1)" "ete" 0 0
+    ∷ accepts "[z-é]" "z" 1 0
+    ∷ accepts "[z-é]" "~" 1 0
+    ∷ accepts "[z-é]" "\u{a0}" 1 0
+    ∷ accepts "[z-é]" "é" 1 0
+    ∷ accepts "[z-é]" "ê" 0 0
+    ∷ accepts "." "\u{a0}" 1 0
+    ∷ accepts "." "ÿ" 1 0
+    ∷ accepts "\u{a0}" "\u{a0}" 1 0
+    ∷ accepts " " "\u{a0}" 0 0
+    ∷ accepts "ÿ" "ÿ" 1 0
     ∷ declines "" 5
     ∷ declines "()" 5
     ∷ declines "a**" 5
+    ∷ declines "a)" 5
+    ∷ declines "\u{1f}" 4
+    ∷ declines "\u{7f}" 4
+    ∷ declines "\u{9f}" 4
+    ∷ declines "[\u{7f}-é]" 4
+    ∷ declines "[z-\u{9f}]" 4
     ∷ declines "[z-a]" 6
-    ∷ declines "[^ -~]" 7
+    ∷ declines "[é-z]" 6
+    ∷ declines "[^ -ÿ]" 7
     ∷ []
 
 -- and what pins each rule of the grammar down
@@ -127,7 +149,6 @@ grammar =
     ∷ declines "a|" 5
     ∷ declines "|a" 5
     ∷ declines "(a" 5
-    ∷ declines "a)" 5
     ∷ declines "*a" 5
     ∷ declines "(a|)" 5
     ∷ declines "a{2}" 5
@@ -135,18 +156,19 @@ grammar =
     ∷ declines "a$" 5
     ∷ declines "]" 5
     -- bytes that are no letters
-    ∷ declines "\u{1f}" 4
-    ∷ declines "\u{7f}" 4
     ∷ declines "[\u{1f}]" 4
     ∷ declines "[\u{7f}]" 4
+    ∷ declines "[\u{80}]" 4
+    ∷ declines "[\u{9f}]" 4
+    ∷ declines "\u{100}" 4
     -- checking order
     ∷ declines "(\u{1f}" 4
     ∷ declines "[z-a" 5
-    ∷ declines "[^ -~][z-a]" 6
+    ∷ declines "[^ -ÿ][z-a]" 6
     -- at most 60 positions, at most 512 bytes
     ∷ long 60 "" 0
     ∷ long 61 "" 8
-    ∷ long 60 "[^ -~]" 7
+    ∷ long 60 "[^ -ÿ]" 7
     ∷ long 511 "\u{1f}" 4
     ∷ long 512 "\u{1f}" 3
     ∷ []

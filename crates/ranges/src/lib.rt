@@ -1,22 +1,25 @@
 // The sets of the letters from one code to another, and of one letter alone.
 use letters::LetterSet;
 ghost use mathlib.Core.Path.{_≡_};
-ghost use mathlib.Core.Bool.{_&&_};
+ghost use mathlib.Core.Bool.{true, _&&_};
 ghost use Prim.Native.Nat.{ℕ, _<_, _≤_, _+_};
-ghost use lib.Dec.{ltb, leb};
+ghost use lib.Dec.{eqb, ltb, leb};
 ghost use Rattle.alphabet.specs.Alphabet.{isLetter};
 ghost use Rattle.bits.specs.Bits.{hasBit};
-ghost use Rattle.letters.specs.LetterSet.{hasLetter};
+ghost use Rattle.letters.specs.LetterSet.{codeAt, hasLetter};
 
 // The letters from a to b, both among them: none where a is past b. Codes that are no letters are left out.
 pub fn range(a: u8, b: u8) -> LetterSet
     ensures { λ r. ⌜ ((c : ℕ) → hasLetter r c ≡ (isLetter c && (leb a c && leb c b))) ⌝ }
 {
-    let end = past(b);
-    LetterSet {
-        low: word(a, end, 32),
-        high: word(a, end, 96),
-    }
+    let from = slots_below(a as usize);
+    let to = slots_below(b as usize + 1);
+    let codes = LetterSet {
+        low: word(from, to, 0),
+        middle: word(from, to, 64),
+        high: word(from, to, 128),
+    };
+    letters::intersection(letters::all(), codes)
 }
 
 // The letter alone, and the empty set for a code that is no letter.
@@ -26,45 +29,61 @@ pub fn only(code: u8) -> LetterSet
     if !alphabet::is_letter(code) {
         return letters::empty();
     }
-    if code < 96 {
-        return LetterSet {
-            low: bits::only((code - 32) as usize),
-            high: 0,
-        };
-    }
+    let slot = letters::slot_of(code);
     LetterSet {
-        low: 0,
-        high: bits::only((code - 96) as usize),
+        low: bit(slot, 0),
+        middle: bit(slot, 64),
+        high: bit(slot, 128),
     }
 }
 
-// One past the last letter that is at most b: 127 for a code past the letters.
-fn past(b: u8) -> u8
-    ensures { λ r. ⌜ ((c : ℕ) → ltb c r ≡ (leb c 126 && leb c b)) ⌝ }
+// How many slots have a code below `code`.
+fn slots_below(code: usize) -> usize
+    ensures { λ r. ⌜ ((i : ℕ) → i < 192 → ltb i r ≡ ltb (codeAt i) code) ⌝ }
 {
-    if b < 126 {
-        return b + 1;
-    }
-    127
-}
-
-// The codes from a on that are below end, as bits of the word that holds the 64 codes from base on.
-fn word(a: u8, end: u8, base: u8) -> u64
-    ensures { λ r. ⌜ ((j : ℕ) → hasBit r j ≡ (ltb j 64 && (leb a (base + j) && ltb (base + j) end))) ⌝ }
-{
-    bits::span(cut(a, base), cut(end, base))
-}
-
-// How many of the 64 codes from base on are below `code`: none for a code up to base, and all for one past them.
-fn cut(code: u8, base: u8) -> usize
-    ensures { λ r. ⌜ (r ≤ 64) × ((j : ℕ) → j < 64 → ltb j r ≡ ltb (base + j) code) ⌝ }
-{
-    if code <= base {
+    if code < 32 {
         return 0;
     }
-    let n = (code - base) as usize;
+    if code < 128 {
+        return code - 32;
+    }
+    if code < 160 {
+        return 96;
+    }
+    code - 64
+}
+
+// The slots from `from` on that are below `to`, as bits of the word that holds the 64 slots from base on.
+fn word(from: usize, to: usize, base: usize) -> u64
+    ensures { λ r. ⌜ ((j : ℕ) → hasBit r j ≡ (ltb j 64 && (leb from (base + j) && ltb (base + j) to))) ⌝ }
+{
+    bits::span(cut(from, base), cut(to, base))
+}
+
+// How many of the 64 slots from base on are below `slot`: none for a slot up to base, and all for one past them.
+fn cut(slot: usize, base: usize) -> usize
+    ensures { λ r. ⌜ (r ≤ 64) × ((j : ℕ) → j < 64 → ltb j r ≡ ltb (base + j) slot) ⌝ }
+{
+    if slot <= base {
+        return 0;
+    }
+    let n = slot - base;
     if n < 64 {
         return n;
     }
     64
+}
+
+// The slot alone, as a bit of the word that holds the 64 slots from base on: none where it is another word's.
+fn bit(slot: usize, base: usize) -> u64
+    ensures { λ r. ⌜ ((j : ℕ) → j < 64 → hasBit r j ≡ eqb slot (base + j)) ⌝ }
+{
+    if slot < base {
+        return 0;
+    }
+    let n = slot - base;
+    if n < 64 {
+        return bits::only(n);
+    }
+    0
 }

@@ -5,13 +5,13 @@ use Prim.Native.Nat.{ℕ, _+_, _*_}
 use lib.ListN.{length, getD}
 use Rattle.letters.specs.declared.LetterSet.{LetterSet}
 
--- how many words a table has: two for each of 61 entries
+-- how many words a table has: three for each of 61 entries
 abbrev pub tableSize : ℕ
-tableSize = 122
+tableSize = 183
 
 -- the set of entry i of a table of words, empty past the last
 unfoldable pub setIn : List ℕ → ℕ → LetterSet
-setIn table i = record { low = getD table (2 * i) 0; high = getD table (2 * i + 1) 0 }
+setIn table i = record { low = getD table (3 * i) 0; middle = getD table (3 * i + 1) 0; high = getD table (3 * i + 2) 0 }
 
 -- entry i becomes the set s
 pub record Writes (i : ℕ) (s : LetterSet) (before after : List ℕ) : Type 0 where

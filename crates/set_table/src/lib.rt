@@ -1,5 +1,5 @@
-// A table of sets, one for each of the numbers 0 to 60, as words: so it can be lent as a slice. Entry i is the words 2 i and
-// 2 i + 1. Nothing outside this crate reads the words.
+// A table of sets, one for each of the numbers 0 to 60, as words: so it can be lent as a slice. Entry i is the words 3 i,
+// 3 i + 1 and 3 i + 2. Nothing outside this crate reads the words.
 use letters::LetterSet;
 ghost use mathlib.Core.Path.{_≡_};
 ghost use mathlib.Core.Bool.{false};
@@ -9,10 +9,10 @@ ghost use Rattle.letters.specs.LetterSet.{hasLetter, setAt};
 ghost use Rattle.set_table.specs.Table.{tableSize, setIn, Writes};
 
 // The table of empty sets.
-pub fn empty() -> [u64; 122]
+pub fn empty() -> [u64; 183]
     ensures { λ r. ⌜ (length r ≡ tableSize) × ((i c : ℕ) → hasLetter (setIn r i) c ≡ false) ⌝ }
 {
-    [0u64; 122]
+    [0u64; 183]
 }
 
 // Entry i becomes the set s.
@@ -20,8 +20,9 @@ pub fn write(table: &mut [u64], i: usize, s: LetterSet)
     requires { ⌜ (i < 61) × (length (now table) ≡ tableSize) ⌝ }
     ensures { λ r. ⌜ Writes i s (now (table .entry)) (now (table .exit)) ⌝ }
 {
-    table[2 * i] = s.low;
-    table[2 * i + 1] = s.high;
+    table[3 * i] = s.low;
+    table[3 * i + 1] = s.middle;
+    table[3 * i + 2] = s.high;
 }
 
 // The sets of the entries 0 to 60.
@@ -29,13 +30,18 @@ pub fn sets(table: &[u64]) -> [LetterSet; 61]
     requires { ⌜ length (now table) ≡ tableSize ⌝ }
     ensures { λ r. ⌜ ((i : ℕ) → setAt r i ≡ setIn (now (table .entry)) i) ⌝ }
 {
-    let none = LetterSet { low: 0, high: 0 };
+    let none = LetterSet {
+        low: 0,
+        middle: 0,
+        high: 0,
+    };
     let mut out = [none; 61];
     let mut i = 0;
     while i < 61 {
         let s = LetterSet {
-            low: table[2 * i],
-            high: table[2 * i + 1],
+            low: table[3 * i],
+            middle: table[3 * i + 1],
+            high: table[3 * i + 2],
         };
         out[i] = s;
         i += 1;

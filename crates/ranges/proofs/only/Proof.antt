@@ -1,15 +1,17 @@
--- The code is no letter, or stands in one of the two words, where it is the only one. Assumes nothing.
-use mathlib.Core.Path.{_≡_, sym, ap, _∙_}
-use mathlib.Core.Bool.{Bool, false, not, _&&_, and-false}
-use Prim.Native.Nat.{ℕ, _+_, _-_, _≤_}
+-- The code is no letter, or its slot is the only one in the three words. Assumes nothing.
+use mathlib.Core.Path.{_≡_, sym, ap, ap₂, _∙_}
+use mathlib.Core.Bool.{Bool, true, false, not, _&&_, and-false}
+use Prim.Native.Nat.{ℕ, _+_, _<_}
 use native.Mathlib.Omega.{arith}
 use lib.Dec.{eqb, leb}
 use borrow.Author.Needs.{needs}
 use borrow.Author.Tests.{leb-true, eqb-true, eq-eqb, ne-eqb, le-leb, not-true, not-false}
 use Rattle.basics.proofs.Tests.{and-parts, and-of, same-test, by-equal}
 use Rattle.bits.specs.Bits.{hasBit}
-use Rattle.bits.proofs.Laws.{has-none}
 use Rattle.alphabet.specs.Alphabet.{isLetter}
+use Rattle.letters.specs.LetterSet.{codeAt, slotOf, hasSlot, hasLetter}
+use Rattle.letters.specs.declared.LetterSet.{LetterSet}
+use Rattle.letters.proofs.Slots.{slot-small, code-slot, code-equal, letter-slot}
 use Rattle.letters.proofs.Sets.{by-words}
 use Rattle.ranges.proofs.only.Statement.{statement}
 use Rattle.ranges.proofs.only.Tie as tie
@@ -27,24 +29,15 @@ alone code k =
     let e = eqb-true code k t in
     and-of (leb code k) (leb k code) (le-leb code k (omega arith)) (le-leb k code (omega arith)))
 
--- a word with the code in it, and one without it
-in-word : (base code w i : ℕ) → base ≤ code → hasBit w i ≡ eqb (code - base) i → hasBit w i ≡ (leb code (base + i) && leb (base + i) code)
-in-word base code w i h e =
-    e ∙ same-test (eqb (code - base) i) (eqb code (base + i)) (λ t. let z = eqb-true (code - base) i t in eq-eqb code (base + i) (omega arith))
-    (λ t. let z = eqb-true code (base + i) t in eq-eqb (code - base) i (omega arith)) ∙ sym (alone code (base + i))
-
-in-other : (code k i : ℕ) → (code ≡ k → ⊥) → hasBit 0 i ≡ (leb code k && leb k code)
-in-other code k i d = has-none i ∙ sym (alone code k ∙ ne-eqb code k d)
-
 not-letter : (code k : ℕ) → isLetter code ≡ false → (isLetter k && (leb code k && leb k code)) ≡ false
 not-letter code k h =
     ap (λ (t : Bool). isLetter k && t) (alone code k)
     ∙ by-equal code k (λ z. ap (λ (t : Bool). t && eqb code k) (ap isLetter (sym z) ∙ h)) (λ d. ap (λ (t : Bool). isLetter k && t) (ne-eqb code k d) ∙ and-false (isLetter k))
 
-bounds : (code : ℕ) (r : Bool) → r ≡ isLetter code → not r ≡ false → (32 ≤ code) × (code ≤ 126)
-bounds code r e n =
-    let p = and-parts (leb 32 code) (leb code 126) (sym e ∙ not-false r n) in
-    (leb-true 32 code (p .0), leb-true code 126 (p .1))
+-- a word with the bit of the code's slot, or with none
+in-word : (code slot base w i : ℕ) → hasSlot code ≡ true → slot ≡ slotOf code → base + i < 192 → hasBit w i ≡ eqb slot (base + i) → hasBit w i ≡ eqb code (codeAt (base + i))
+in-word code slot base w i h z l e =
+    e ∙ ap (λ (x : ℕ). eqb x (base + i)) z ∙ sym (code-equal (slotOf code) (base + i) (slot-small code h) l) ∙ ap (λ (x : ℕ). eqb x (codeAt (base + i))) (code-slot code h)
 
 is-letter-requires : tie.Need-is-letter-requires
 is-letter-requires c κs = search needs
@@ -59,45 +52,39 @@ returns c k =
     c .empty .ensures k ∙ sym (not-letter code k (sym (letter .ensures) ∙ not-true (letter .result) (c .before .if1 .taken)))
 
 -- the code is a letter
-within : (c : tie.Else1) → (32 ≤ c .before .before .args .code) × (c .before .before .args .code ≤ 126)
-within c =
-    let letter = c .before .is-letter in
-    bounds (c .before .before .args .code) (letter .result) (letter .ensures) (c .if1 .left)
+letter : (c : tie.Else1) → isLetter (c .before .before .args .code) ≡ true
+letter c = let l = c .before .is-letter in sym (l .ensures) ∙ not-false (l .result) (c .if1 .left)
 
-sub-only : tie.Need-sub-only
-sub-only c = let b = within (c .before) in omega arith
+slot-of-requires : tie.Need-slot-of-requires
+slot-of-requires c κs = letter-slot (c .before .before .args .code) (letter c)
 
-cast-only : tie.Need-cast-only
-cast-only c = search needs
+bit-requires : tie.Need-bit-requires
+bit-requires c κs = search needs
 
-only-requires : tie.Need-only-requires
-only-requires c κs = search needs
+bit-requires-2 : tie.Need-bit-requires-2
+bit-requires-2 c κs = search needs
+
+bit-requires-3 : tie.Need-bit-requires-3
+bit-requires-3 c κs = search needs
 
 returns-2 : tie.Need-returns-2
-returns-2 c =
-    let code = c .before .before .before .before .args .code in
-    let b = within (c .before .before) in
-    let w = c .only .result in
-    by-words record { low = w; high = 0 } (λ k. leb code k && leb k code)
-    (λ i h. in-word 32 code w i (b .0) (c .only .ensures i))
-    (λ i h. in-other code (96 + i) i (λ z. omega arith))
-    (λ i h. has-none i)
-
-cast-only-2 : tie.Need-cast-only-2
-cast-only-2 c = search needs
-
-only-requires-2 : tie.Need-only-requires-2
-only-requires-2 c κs = let b = within (c .before) in omega arith
-
-returns-3 : tie.Need-returns-3
-returns-3 c =
-    let code = c .before .before .before .before .args .code in
-    let b = within (c .before .before) in
-    let w = c .only2 .result in
-    by-words record { low = 0; high = w } (λ k. leb code k && leb k code)
-    (λ i h. in-other code (32 + i) i (λ z. omega arith))
-    (λ i h. in-word 96 code w i (omega arith) (c .only2 .ensures i))
-    (λ i h. c .only2 .ensures i ∙ ne-eqb (code - 96) i (λ z. omega arith))
+returns-2 c k =
+    let code = c .before .before .before .before .before .before .args .code in
+    let l = letter (c .before .before .before .before) in
+    let h = letter-slot code l in
+    let slot = c .before .before .before .slot-of in
+    let low = c .before .before .bit in
+    let middle = c .before .bit2 in
+    let high = c .bit3 in
+    let r : LetterSet = record { low = low .result; middle = middle .result; high = high .result } in
+    by-words r (eqb code)
+    (λ i m. in-word code (slot .result) 0 (low .result) i h (slot .ensures) (omega arith) (low .ensures i m) ∙ ap (λ (j : ℕ). eqb code (codeAt j)) (omega arith))
+    (λ i m. in-word code (slot .result) 64 (middle .result) i h (slot .ensures) (omega arith) (middle .ensures i m))
+    (λ i m. in-word code (slot .result) 128 (high .result) i h (slot .ensures) (omega arith) (high .ensures i m)) k
+    ∙ same-test (hasSlot k && eqb code k) (isLetter k && eqb code k)
+    (λ t. let e = and-parts (hasSlot k) (eqb code k) t .1 in and-of (isLetter k) (eqb code k) (ap isLetter (sym (eqb-true code k e)) ∙ l) e)
+    (λ t. let p = and-parts (isLetter k) (eqb code k) t in and-of (hasSlot k) (eqb code k) (letter-slot k (p .0)) (p .1))
+    ∙ ap (λ (t : Bool). isLetter k && t) (sym (alone code k))
 
 pub only-spec : {M : Type 1} → statement M
 only-spec =
@@ -106,10 +93,8 @@ only-spec =
     is-letter-requires
     empty-requires
     returns
-    sub-only
-    cast-only
-    only-requires
-    returns-2
-    cast-only-2
-    only-requires-2
-    returns-3)
+    slot-of-requires
+    bit-requires
+    bit-requires-2
+    bit-requires-3
+    returns-2)

@@ -1,4 +1,4 @@
--- Within the 64 codes both ends are where `cut` puts them, and past them the word has nothing. Assumes nothing.
+-- Within the 64 slots both ends are where `cut` puts them, and past them the word has nothing. Assumes nothing.
 use mathlib.Core.Path.{sym, ap, ap₂, _∙_}
 use mathlib.Core.Bool.{Bool, not, _&&_, and-false}
 use Prim.Native.Nat.{_+_}
@@ -22,19 +22,19 @@ span-requires c κs = search needs
 
 returns : tie.Need-returns
 returns c j =
-    let a = c .before .before .before .args .a in
-    let end = c .before .before .before .args .end in
+    let from = c .before .before .before .args .from in
+    let to = c .before .before .before .args .to in
     let base = c .before .before .before .args .base in
-    let from = c .before .before .cut in
-    let to = c .before .cut2 in
+    let first = c .before .before .cut in
+    let last = c .before .cut2 in
     c .span .ensures j
     ∙ ⊎-elim
     (λ h.
-    ap (λ (t : Bool). leb (from .result) j && t) (le-ltb j (to .result) (omega (arith, to .ensures .0))) ∙ and-false (leb (from .result) j)
-    ∙ sym (ap (λ (t : Bool). t && (leb a (base + j) && ltb (base + j) end)) (le-ltb j 64 h)))
+    ap (λ (t : Bool). leb (first .result) j && t) (le-ltb j (last .result) (omega (arith, last .ensures .0))) ∙ and-false (leb (first .result) j)
+    ∙ sym (ap (λ (t : Bool). t && (leb from (base + j) && ltb (base + j) to)) (le-ltb j 64 h)))
     (λ h.
-    ap₂ _&&_ (sym (not-less j (from .result)) ∙ ap not (from .ensures .1 j h) ∙ not-less (base + j) a) (to .ensures .1 j h)
-    ∙ sym (ap (λ (t : Bool). t && (leb a (base + j) && ltb (base + j) end)) (lt-ltb j 64 h)))
+    ap₂ _&&_ (sym (not-less j (first .result)) ∙ ap not (first .ensures .1 j h) ∙ not-less (base + j) from) (last .ensures .1 j h)
+    ∙ sym (ap (λ (t : Bool). t && (leb from (base + j) && ltb (base + j) to)) (lt-ltb j 64 h)))
     (le-or-lt 64 j)
 
 pub word-spec : {M : Type 1} → statement M

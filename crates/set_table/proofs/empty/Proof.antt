@@ -5,7 +5,7 @@ use Rattle.set_table.proofs.empty.Statement.{statement}
 use Rattle.set_table.proofs.empty.Tie as tie
 
 returns : tie.Need-returns
-returns c = (refl, none-in 122)
+returns c = (refl, none-in 183)
 
 pub empty-spec : {M : Type 1} → statement M
 empty-spec = tie.close (tie.spec returns)

@@ -1,9 +1,9 @@
 -- The loop's invariant: the sets of the entries below i are copied. The measure is how many are left. Assumes nothing.
 use mathlib.Core.Path.{_≡_, refl, _∙_, subst}
-use Prim.Native.Nat.{ℕ, _+_, _*_, _-_, _≤_}
+use Prim.Native.Nat.{ℕ, _-_, _≤_}
 use native.Mathlib.Omega.{arith}
-use lib.ListN.{length, getD, length-set}
-use Rattle.set_table.proofs.Tables.{Copied, copy-one, copied-all}
+use lib.ListN.{length, length-set}
+use Rattle.set_table.proofs.Tables.{wordsOf, Copied, copy-one, copied-all}
 use Rattle.set_table.proofs.sets.Statement.{statement}
 use Rattle.set_table.proofs.sets.Tie as tie
 
@@ -37,6 +37,18 @@ mul-t13 c = omega arith
 shared-slice-read-t15 : tie.Need-shared-slice-read-t15 Inv-loop μ-loop
 shared-slice-read-t15 c = omega (arith, c .before .before .before .before .pre)
 
+mul-t16 : tie.Need-mul-t16 Inv-loop μ-loop
+mul-t16 c = omega arith
+
+add-t17 : tie.Need-add-t17 Inv-loop μ-loop
+add-t17 c = omega arith
+
+mul-t18 : tie.Need-mul-t18 Inv-loop μ-loop
+mul-t18 c = omega arith
+
+shared-slice-read-t20 : tie.Need-shared-slice-read-t20 Inv-loop μ-loop
+shared-slice-read-t20 c = omega (arith, c .before .before .before .before .before .pre)
+
 mul-out : tie.Need-mul-out Inv-loop μ-loop
 mul-out c = omega arith
 
@@ -51,10 +63,10 @@ loop-less c = omega arith
 
 loop-again : tie.Need-loop-again Inv-loop μ-loop
 loop-again c =
-    let table = c .before .before .before .before .args .table .now in
-    let at = c .before .before .before .loop in (
+    let table = c .before .before .before .before .before .args .table .now in
+    let at = c .before .before .before .before .loop in (
       omega arith,
-      length-set (at .out) (at .i) record { low = getD table (2 * at .i) 0; high = getD table (2 * at .i + 1) 0 } ∙ at .inv .1,
+      length-set (at .out) (at .i) (wordsOf table (at .i)) ∙ at .inv .1,
       copy-one table (at .out) (at .i) (omega (arith, at .inv .1)) (at .inv .2),
     )
 
@@ -79,6 +91,10 @@ sets-spec =
     add-t12
     mul-t13
     shared-slice-read-t15
+    mul-t16
+    add-t17
+    mul-t18
+    shared-slice-read-t20
     mul-out
     array-set-from-out
     add-i

@@ -1,7 +1,7 @@
--- The two stores are the store of the set. Assumes nothing.
-use Prim.Native.Nat.{_*_}
+-- The three stores are the store of the set. Assumes nothing.
+use Prim.Native.Nat.{_+_, _*_}
 use native.Mathlib.Omega.{arith}
-use lib.ListN.{length-set}
+use lib.ListN.{set, length-set}
 use borrow.Author.Needs.{needs}
 use Rattle.set_table.proofs.Tables.{writes}
 use Rattle.set_table.proofs.write.Statement.{statement}
@@ -26,7 +26,23 @@ mul-table-4 : tie.Need-mul-table-4
 mul-table-4 c = search needs
 
 slice-write-table-2 : tie.Need-slice-write-table-2
-slice-write-table-2 c = let l = length-set (c .args .table .now) (2 * c .args .i) (c .args .s .low) in omega arith
+slice-write-table-2 c = let l = length-set (c .args .table .now) (3 * c .args .i) (c .args .s .low) in omega arith
+
+mul-table-5 : tie.Need-mul-table-5
+mul-table-5 c = search needs
+
+add-table-2 : tie.Need-add-table-2
+add-table-2 c = search needs
+
+mul-table-6 : tie.Need-mul-table-6
+mul-table-6 c = search needs
+
+slice-write-table-3 : tie.Need-slice-write-table-3
+slice-write-table-3 c =
+    let a = c .args in
+    let l = length-set (a .table .now) (3 * a .i) (a .s .low) in
+    let m = length-set (set (a .table .now) (3 * a .i) (a .s .low)) (3 * a .i + 1) (a .s .middle) in
+    omega arith
 
 same-length : tie.Need-same-length
 same-length c = search needs
@@ -45,5 +61,9 @@ write-spec =
     add-table
     mul-table-4
     slice-write-table-2
+    mul-table-5
+    add-table-2
+    mul-table-6
+    slice-write-table-3
     same-length
     returns)
