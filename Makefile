@@ -1,4 +1,5 @@
 # make run    builds the program and vets a sample paper of patterns
+# make run-latin1  the same with a sample of French and Spanish patterns, which is converted from UTF-8 to ISO 8859-1
 # make show PATTERN='..' ANSWER='..'  vets a pattern with the example client in C and marks an answer, which may be left out
 # make test   proves every crate, tries every must-fail edit, runs every test; the last line is 'N passed, M failed'
 # make bench  prints how the library's speed compares with unverified programs
@@ -21,12 +22,17 @@ CLIENT = target/c/client
 # what is proved: all of the crates but the edits that must fail; with the folders, so that a file that is gone is noticed
 SOURCES := crates.txt $(shell find crates -not -path '*/must-fail*')
 
-.PHONY: run show test bench soak install uninstall fmt clean library program
+.PHONY: run run-latin1 show test bench soak install uninstall fmt clean library program
 # one proof at a time: they share target/
 .NOTPARALLEL:
 
 run: $(PROGRAM)
 	$(PROGRAM) < examples/paper.txt
+
+# in two steps, so that nothing is vetted where iconv meets what ISO 8859-1 does not have
+run-latin1: $(PROGRAM)
+	iconv -f UTF-8 -t ISO-8859-1 examples/paper-fr-es.txt > target/paper-fr-es.txt
+	$(PROGRAM) < target/paper-fr-es.txt
 
 # The texts reach the shell in the environment, so that nothing in them is expanded. An ANSWER that is given and empty is the empty
 # answer. A status that is not 0 is the client's own: make says so in a line and ends with 2.
@@ -35,7 +41,7 @@ show: export SHOW_ANSWER := $(value ANSWER)
 show: $(CLIENT)
 	@[ "$(origin PATTERN)" != undefined ] || { echo "usage: make show PATTERN='..' ANSWER='..'" >&2; exit 2; }
 	@$(CLIENT) "$$SHOW_PATTERN" $(if $(filter undefined,$(origin ANSWER)),,"$$SHOW_ANSWER") || \
-	  { status=$$?; echo "the client's exit status: $$status (1 refused, 3 runaway)" >&2; exit $$status; }
+	  { status=$$?; echo "the client's exit status: $$status (1 refused, 2 not converted, 3 runaway)" >&2; exit $$status; }
 
 test:
 	@RT="$(RT)" tests/gate

@@ -3,6 +3,10 @@
  *
  *   client PATTERN [ANSWER ..]
  *
+ * The library takes ISO 8859-1, one byte a letter, and a terminal today writes UTF-8. If every argument is UTF-8, as plain ASCII is too,
+ * all are converted to ISO 8859-1, and the texts that are printed are converted back; a character that ISO 8859-1 does not have is
+ * told, and is bad usage. Otherwise all are taken byte for byte as ISO 8859-1, and the texts are printed so.
+ *
  * Exit status: 2 for bad usage; else 1 if the pattern or an answer is refused; else 3 if the pattern is runaway; else 0.
  */
 #include "marking.h"
@@ -15,6 +19,71 @@
 #define TRIED_TEXT "50,000"
 
 static const uint8_t *bytes(const char *s) { return (const uint8_t *)s; }
+
+/* The code of the character that a text in UTF-8 begins with, and how many bytes it has; 0 bytes if the text is no UTF-8 there. */
+static size_t character(const uint8_t *text, uint32_t *code) {
+    static const uint32_t lowest[] = {0, 0x80, 0x800, 0x10000}; /* by the number of further bytes: a lower code has fewer */
+    const uint8_t first = text[0];
+    const size_t more = first < 0x80 ? 0 : first >> 5 == 6 ? 1 : first >> 4 == 14 ? 2 : first >> 3 == 30 ? 3 : 4;
+    if (more == 4)
+        return 0;
+    *code = more == 0 ? first : first & (0x3fu >> more);
+    for (size_t i = 1; i <= more; i++) {
+        if (text[i] >> 6 != 2) /* nor does a text go on after its zero byte */
+            return 0;
+        *code = *code << 6 | (text[i] & 0x3f);
+    }
+    return *code < lowest[more] || (*code >= 0xd800 && *code <= 0xdfff) || *code > 0x10ffff ? 0 : more + 1;
+}
+
+static int is_utf8(const uint8_t *text) {
+    uint32_t code;
+    for (size_t len; *text != 0; text += len)
+        if ((len = character(text, &code)) == 0)
+            return 0;
+    return 1;
+}
+
+/*
+ * Converts a text that a zero byte ends from UTF-8 to ISO 8859-1, in place. Returns NULL, or where it had to stop: at the first
+ * character that ISO 8859-1 does not have, or at the first byte that is no UTF-8.
+ */
+static const uint8_t *to_latin1(uint8_t *text) {
+    const uint8_t *from = text;
+    while (*from != 0) {
+        if (*from < 0x80) { /* one byte, the same */
+            *text++ = *from++;
+        } else if ((*from == 0xc2 || *from == 0xc3) && from[1] >> 6 == 2) { /* two, for the codes 128 to 255 */
+            *text++ = (uint8_t)((*from & 3) << 6 | (from[1] & 0x3f));
+            from += 2;
+        } else {
+            return from;
+        }
+    }
+    *text = 0;
+    return NULL;
+}
+
+/* Whether the arguments came in UTF-8. Then texts are printed so. */
+static int utf8;
+
+static void show_text(const uint8_t *text, size_t len) {
+    for (size_t i = 0; i < len; i++) {
+        if (utf8 && text[i] >= 0x80) {
+            putchar(0xc0 | text[i] >> 6);
+            putchar(0x80 | (text[i] & 0x3f));
+        } else {
+            putchar(text[i]);
+        }
+    }
+}
+
+/* An argument as it was given, after a word that says what it is. */
+static void show_argument(const char *word, const char *argument) {
+    printf("%s \"", word);
+    show_text(bytes(argument), strlen(argument));
+    printf("\": ");
+}
 
 static const char *plural(uint64_t n) { return n == 1 ? "" : "s"; }
 
@@ -61,7 +130,9 @@ static void show_marked(const uint8_t *text, size_t len, size_t begin, size_t en
     const size_t row = 80;
     for (size_t at = 0; at < len; at += row) {
         size_t stop = at + row < len ? at + row : len;
-        printf("    \"%.*s\"\n", (int)(stop - at), (const char *)text + at);
+        printf("    \"");
+        show_text(text + at, stop - at);
+        printf("\"\n");
         if (at >= end)
             continue;
         printf("     ");
@@ -101,19 +172,23 @@ static void show_runaway(const char *pattern, const uint8_t *evidence, struct ma
 static struct marking_vetted vet(const char *pattern) {
     uint8_t evidence[MARKING_EVIDENCE];
     struct marking_vetted v = marking_vet_unpack(marking_vet(bytes(pattern), strlen(pattern), evidence, sizeof evidence));
+    show_argument("pattern", pattern);
     if (v.refusal != MARKING_ACCEPTED) {
-        printf("pattern \"%s\": refused, %u: %s\n", pattern, v.refusal, reason(v.refusal));
+        printf("refused, %u: %s\n", v.refusal, reason(v.refusal));
         return v;
     }
     const char *const verdicts[] = {"single", "steady", "runaway"};
-    printf("pattern \"%s\": %s, %u position%s\n", pattern, verdicts[v.verdict], v.positions, plural(v.positions));
-    if (v.verdict == MARKING_SINGLE)
+    printf("%s, %u position%s\n", verdicts[v.verdict], v.positions, plural(v.positions));
+    if (v.verdict == MARKING_SINGLE) {
         printf("  no answer has two readings\n");
-    else if (v.verdict == MARKING_STEADY)
-        printf("  \"%.*s\" has %s; no answer of m letters has more than (m + 2)^%u\n", (int)v.text_len, (const char *)evidence,
+    } else if (v.verdict == MARKING_STEADY) {
+        printf("  \"");
+        show_text(evidence, v.text_len);
+        printf("\" has %s; no answer of m letters has more than (m + 2)^%u\n",
                readings(count_of(pattern, evidence, v.text_len)), 2 * v.positions);
-    else
+    } else {
         show_runaway(pattern, evidence, v);
+    }
     return v;
 }
 
@@ -121,20 +196,40 @@ static struct marking_marked mark(const char *pattern, const char *answer) {
     uint64_t count = 0;
     struct marking_marked m =
         marking_mark_unpack(marking_mark(bytes(pattern), strlen(pattern), bytes(answer), strlen(answer), &count));
+    show_argument("answer", answer);
     if (m.refusal != MARKING_ACCEPTED)
-        printf("answer \"%s\": refused, %u: %s\n", answer, m.refusal, reason(m.refusal));
+        printf("refused, %u: %s\n", m.refusal, reason(m.refusal));
     else
-        printf("answer \"%s\": %s, mark %u\n  %s\n", answer, readings(count), (unsigned)m.mark,
+        printf("%s, mark %u\n  %s\n", readings(count), (unsigned)m.mark,
                count > TRIED ? "past the " TRIED_TEXT " that the marking machine tries: its mark may be lower"
                              : "within the " TRIED_TEXT " that the marking machine tries: it finds this mark");
     return m;
 }
 
+/* Converts the arguments where all are UTF-8. Returns 0 if one has a character that ISO 8859-1 does not have, and tells it. */
+static int convert(int argc, char **argv) {
+    utf8 = 1;
+    for (int i = 1; i < argc; i++)
+        utf8 &= is_utf8(bytes(argv[i]));
+    for (int i = 1; utf8 && i < argc; i++) {
+        const uint8_t *left = to_latin1((uint8_t *)argv[i]);
+        if (left != NULL) {
+            uint32_t code = 0;
+            int len = (int)character(left, &code);
+            fprintf(stderr, "client: \"%.*s\" (U+%04X) is not in ISO 8859-1\n", len, (const char *)left, (unsigned)code);
+            return 0;
+        }
+    }
+    return 1;
+}
+
 int main(int argc, char **argv) {
     if (argc < 2) {
-        fprintf(stderr, "usage: client PATTERN [ANSWER ..]\n");
+        fprintf(stderr, "usage: client PATTERN [ANSWER ..], in UTF-8 or in ISO 8859-1\n");
         return 2;
     }
+    if (!convert(argc, argv))
+        return 2;
     struct marking_vetted v = vet(argv[1]);
     int refused = v.refusal != MARKING_ACCEPTED;
     if (!refused)

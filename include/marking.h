@@ -4,6 +4,9 @@
  * The calls keep no state and allocate nothing, and any number of threads may make them at once. Each returns one number, which the
  * function marking_.._unpack of the same name makes a struct. What is wrong with the bytes they are given they tell by a refusal.
  *
+ * Patterns, answers and the texts shown are in ISO 8859-1, one byte a letter. Text in UTF-8 has to be converted first: an e with an
+ * acute accent is two bytes there, and both pass as letters, so that no refusal tells it.
+ *
  * What a caller has to see to:
  *   - A slice is a pointer and a length. The pointer is to that many elements; where the length is 0 it may be null.
  *   - What a call writes (evidence, scratch, *count) overlaps with nothing else that it is given. What it only reads may overlap.
@@ -37,7 +40,7 @@ extern "C" {
 /* The count that means 'so many or more'. Every smaller one is exact. */
 #define MARKING_COUNT_MAX (UINT64_C(1) << 63)
 
-/* Why a call declined: the lowest that applies. A letter is a byte from 32 to 126. */
+/* Why a call declined: the lowest that applies. A letter is a byte from 32 to 126 or from 160 to 255. */
 enum marking_refusal {
     MARKING_ACCEPTED = 0,
     MARKING_EVIDENCE_TOO_SHORT = 1, /* vet: fewer than MARKING_EVIDENCE bytes */

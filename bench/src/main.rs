@@ -53,6 +53,13 @@ impl Random {
 
 const ORDINARY: &[u8] = b"(th=1e|a=1) (qui=2ck|sl=1ow) (brown|red)? ?fox(es)? (jump(s|ed)?|ran) ove=1r .*";
 
+const FRENCH: &str = "(l'é=1té dernier|l'anné=1e derniè=1re) (nous|ils) (avons|ont) é=1té .*";
+
+/// A text as the library takes it.
+fn latin1(text: &str) -> Vec<u8> {
+    text.chars().map(|c| u8::try_from(c).expect("a letter of ISO 8859-1")).collect()
+}
+
 fn loads() -> Vec<Load> {
     let mut r = Random(1);
     let mut text = |letters: &[u8], n: usize| -> Vec<u8> { (0..n).map(|_| letters[r.below(letters.len())]).collect() };
@@ -92,6 +99,18 @@ fn loads() -> Vec<Load> {
             name: "ordinary text, 4,096 letters",
             pattern: ORDINARY.to_vec(),
             answers: vec![[&b"the quick brown fox jumped over "[..], &text(b"abcdefgh ", 4064)].concat()],
+        },
+        Load {
+            name: "French text, some 60 letters",
+            pattern: latin1(FRENCH),
+            answers: [
+                "l'été dernier nous avons été à la plage près de Saint-Malo",
+                "l'année dernière ils ont été très gênés par la forêt brûlée",
+                "l'été dernier ils ont été reçus à dîner chez un maître d'école",
+                "l'ete dernier nous avons été à la plage près de Saint-Malo",
+            ]
+            .map(latin1)
+            .to_vec(),
         },
         Load {
             name: "ordinary text, some 60 letters",

@@ -1,6 +1,9 @@
 //! The same work without proofs: a reader of patterns into sets and numbers of links, marking by sets, marking by all pairs of
 //! positions without sets, and the same search for a verdict. It is what the library is measured against.
 
+/// A set of letters: code c is bit c % 64 of entry c / 64.
+type Set = [u64; 4];
+
 #[derive(Clone)]
 pub struct Built {
     pub positions: usize,
@@ -9,11 +12,15 @@ pub struct Built {
     /// number has binary digit k. Empty where no two are linked twice.
     pub more: Vec<[u64; 8]>,
     pub lasts: u64,
-    pub letters: [u128; 61],
+    pub letters: [Set; 61],
     pub credits: [u8; 61],
 }
 
 impl Built {
+    fn new() -> Self {
+        Built { positions: 0, follow: [0; 61], more: Vec::new(), lasts: 0, letters: [[0; 4]; 61], credits: [0; 61] }
+    }
+
     /// One link more from a state to each of a set that it leads to already: an addition with carry.
     #[inline(never)]
     fn one_more(&mut self, a: usize, set: u64) {
@@ -56,7 +63,7 @@ impl Built {
 struct Reader<'a> {
     text: &'a [u8],
     at: usize,
-    built: Built,
+    built: &'a mut Built,
     reversed: bool,
     hollow: bool,
     positions: usize,
@@ -70,7 +77,27 @@ struct Part {
 }
 
 const SPECIAL: &[u8] = b"|*+?()[]{}^$.\\=";
-const ALL: u128 = ((1u128 << 127) - 1) & !((1u128 << 32) - 1);
+
+/// The codes 32 to 126 and 160 to 255.
+const ALL: Set = [!0 << 32, !0 >> 1, !0 << 32, !0];
+
+fn is_letter(c: u8) -> bool {
+    matches!(c, 32..=126 | 160..=255)
+}
+
+fn one(c: u8) -> Set {
+    std::array::from_fn(|k| u64::from(k == c as usize >> 6) << (c & 63))
+}
+
+fn share(a: &Set, b: &Set) -> bool {
+    (0..4).fold(0, |all, k| all | a[k] & b[k]) != 0
+}
+
+/// The lowest letter that two sets share.
+fn lowest(a: &Set, b: &Set) -> u8 {
+    let k = (0..4).find(|k| a[*k] & b[*k] != 0).unwrap_or(0);
+    (64 * k as u32 + (a[k] & b[k]).trailing_zeros()) as u8
+}
 
 impl Reader<'_> {
     fn peek(&self) -> u8 {
@@ -158,10 +185,10 @@ impl Reader<'_> {
         Some(b)
     }
 
-    fn class(&mut self) -> Option<u128> {
+    fn class(&mut self) -> Option<Set> {
         let others = self.peek() == b'^';
         self.at += usize::from(others);
-        let mut set = 0u128;
+        let mut set: Set = [0; 4];
         let mut items = 0;
         while let Some(a) = self.class_letter() {
             let mut b = a;
@@ -169,10 +196,12 @@ impl Reader<'_> {
                 self.at += 1;
                 b = self.class_letter()?;
             }
-            if a <= b {
-                set |= ((1u128 << b << 1) - 1) & !((1u128 << a) - 1);
-            } else {
-                self.reversed = true;
+            self.reversed |= a > b;
+            let (first, last) = (a as usize >> 6, b as usize >> 6);
+            let (from, to) = (!0 << (a & 63), !0 >> (63 - (b & 63)));
+            for (k, word) in set.iter_mut().enumerate() {
+                let inside = if first <= k && k <= last { !0 } else { 0 };
+                *word |= inside & if k == first { from } else { !0 } & if k == last { to } else { !0 };
             }
             items += 1;
         }
@@ -180,7 +209,7 @@ impl Reader<'_> {
             return None;
         }
         self.at += 1;
-        Some(if others { ALL & !set } else { set })
+        Some(std::array::from_fn(|k| ALL[k] & if others { !set[k] } else { set[k] }))
     }
 
     fn lettered(&mut self) -> Option<Part> {
@@ -195,10 +224,10 @@ impl Reader<'_> {
                     return None;
                 }
                 self.at += 1;
-                1 << c
+                one(c)
             }
             _ if SPECIAL.contains(&b) => return None,
-            _ => 1 << b,
+            _ => one(b),
         };
         let mut credit = 0;
         if self.peek() == b'=' {
@@ -210,7 +239,7 @@ impl Reader<'_> {
             self.at += 1;
             credit = d - b'0';
         }
-        self.hollow |= set == 0;
+        self.hollow |= set == [0; 4];
         self.positions += 1;
         let mut bit = 0;
         if self.positions <= 60 {
@@ -222,14 +251,14 @@ impl Reader<'_> {
     }
 }
 
-pub fn read(text: &[u8]) -> Result<Built, u8> {
+/// The pattern is put into a new table, so that no table is copied.
+pub fn read(text: &[u8], built: &mut Built) -> Result<(), u8> {
     if text.len() > 512 {
         return Err(3);
     }
-    if text.iter().any(|b| !(32..=126).contains(b)) {
+    if text.iter().any(|b| !is_letter(*b)) {
         return Err(4);
     }
-    let built = Built { positions: 0, follow: [0; 61], more: Vec::new(), lasts: 0, letters: [0; 61], credits: [0; 61] };
     let mut r = Reader { text, at: 0, built, reversed: false, hollow: false, positions: 0 };
     let Some(part) = r.pattern().filter(|_| r.at == text.len()) else { return Err(5) };
     if r.reversed {
@@ -244,11 +273,14 @@ pub fn read(text: &[u8]) -> Result<Built, u8> {
     r.built.positions = r.positions;
     r.built.follow[0] = part.firsts;
     r.built.lasts = part.lasts | u64::from(part.empty);
-    Ok(r.built)
+    Ok(())
 }
 
 fn plus(a: u64, b: u64) -> u64 {
-    (a.saturating_add(b)).min(1 << 63)
+    match a.checked_add(b) {
+        Some(n) if n < 1 << 63 => n,
+        _ => 1 << 63,
+    }
 }
 
 fn times(a: u64, links: u8) -> u64 {
@@ -258,11 +290,11 @@ fn times(a: u64, links: u8) -> u64 {
 /// For each position the states before it, and for each letter the positions that hold it.
 struct Sets {
     before: [u64; 61],
-    holders: [u64; 128],
+    holders: [u64; 256],
 }
 
 fn sets(b: &Built) -> Sets {
-    let mut s = Sets { before: [0; 61], holders: [0; 128] };
+    let mut s = Sets { before: [0; 61], holders: [0; 256] };
     for u in 0..=b.positions {
         let mut left = b.follow[u];
         while left != 0 {
@@ -271,36 +303,40 @@ fn sets(b: &Built) -> Sets {
         }
     }
     for i in 1..=b.positions {
-        let mut left = b.letters[i];
-        while left != 0 {
-            s.holders[left.trailing_zeros() as usize] |= 1 << i;
-            left &= left - 1;
+        for (k, word) in b.letters[i].iter().enumerate() {
+            let mut left = *word;
+            while left != 0 {
+                s.holders[64 * k + left.trailing_zeros() as usize] |= 1 << i;
+                left &= left - 1;
+            }
         }
     }
     s
 }
 
 /// The pattern, where nothing refuses it or the answer.
-fn accepted(text: &[u8], answer: &[u8]) -> Result<Built, u8> {
-    let b = read(text)?;
+fn accepted(text: &[u8], answer: &[u8], b: &mut Built) -> Result<(), u8> {
+    read(text, b)?;
     if answer.len() > 4096 {
         return Err(9);
     }
-    if answer.iter().any(|c| !(32..=126).contains(c)) {
+    if answer.iter().any(|c| !is_letter(*c)) {
         return Err(10);
     }
-    Ok(b)
+    Ok(())
 }
 
 /// Marking by sets.
 pub fn mark(text: &[u8], answer: &[u8]) -> Result<(u64, u32), u8> {
-    let b = accepted(text, answer)?;
+    let mut b = Built::new();
+    accepted(text, answer, &mut b)?;
     let s = sets(&b);
     let numbers = b.numbers();
     // where no two are linked twice there is no multiplication
     Ok(if numbers.is_empty() { mark_by::<false>(&b, &s, &numbers, answer) } else { mark_by::<true>(&b, &s, &numbers, answer) })
 }
 
+#[inline(never)]
 fn mark_by<const LINKED: bool>(b: &Built, s: &Sets, numbers: &[[u8; 61]], answer: &[u8]) -> (u64, u32) {
     let mut counts = [[0u64; 61]; 2];
     let mut best = [[0u32; 61]; 2];
@@ -308,7 +344,7 @@ fn mark_by<const LINKED: bool>(b: &Built, s: &Sets, numbers: &[[u8; 61]], answer
     let mut active = 1u64;
     let mut row = 0;
     for c in answer {
-        let mut left = s.holders[*c as usize & 127];
+        let mut left = s.holders[*c as usize];
         let mut next = 0;
         while left != 0 {
             let i = left.trailing_zeros() as usize;
@@ -347,17 +383,18 @@ fn mark_by<const LINKED: bool>(b: &Built, s: &Sets, numbers: &[[u8; 61]], answer
 
 /// Marking by trying all pairs of positions at each letter, without sets.
 pub fn mark_all_pairs(text: &[u8], answer: &[u8]) -> Result<(u64, u32), u8> {
-    let b = accepted(text, answer)?;
+    let mut b = Built::new();
+    accepted(text, answer, &mut b)?;
     let numbers = b.numbers();
     let linked = !numbers.is_empty();
     let mut follow = [[false; 61]; 61];
-    let mut holds = [[false; 61]; 128];
+    let mut holds = [[false; 61]; 256];
     for u in 0..61 {
         for i in 1..61 {
             follow[u][i] = b.follow[u] >> i & 1 == 1;
         }
         for (c, row) in holds.iter_mut().enumerate() {
-            row[u] = b.letters[u] >> c & 1 == 1;
+            row[u] = b.letters[u][c >> 6] >> (c & 63) & 1 == 1;
         }
     }
     let mut counts = [0u64; 61];
@@ -365,7 +402,7 @@ pub fn mark_all_pairs(text: &[u8], answer: &[u8]) -> Result<(u64, u32), u8> {
     counts[0] = 1;
     best[0] = Some(0);
     for c in answer {
-        let held = &holds[*c as usize & 127];
+        let held = &holds[*c as usize];
         let mut new_counts = [0u64; 61];
         let mut new_best = [None::<u32>; 61];
         for i in 1..=b.positions {
@@ -463,7 +500,7 @@ impl Search {
         while at != 0 {
             let node = self.queue[at] as usize;
             let (c, d) = if node < 64 { (node, node) } else { (node / 64, node % 64) };
-            out.push((b.letters[c] & b.letters[d]).trailing_zeros() as u8);
+            out.push(lowest(&b.letters[c], &b.letters[d]));
             at = self.from[at] as usize;
         }
         out[begin..].reverse();
@@ -477,11 +514,12 @@ impl Default for Search {
 }
 
 pub fn vet(text: &[u8], s: &mut Search) -> Result<(u8, usize, [usize; 3], Vec<u8>), u8> {
-    let b = read(text)?;
+    let mut b = Built::new();
+    read(text, &mut b)?;
     let mut shares = [0u64; 61];
     for i in 1..=b.positions {
         for j in 1..=b.positions {
-            if b.letters[i] & b.letters[j] != 0 {
+            if share(&b.letters[i], &b.letters[j]) {
                 shares[i] |= 1 << j;
             }
         }

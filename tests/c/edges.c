@@ -1,8 +1,8 @@
 /*
  * The memory that the calls may not touch: null with length 0 for every slice, memory that cannot be written behind every refused
  * call, null and memory that cannot even be read behind the count of a refused mark, and slices that end where memory ends. Touching
- * it is a crash, which is told with the name of the test. The last line is 'N passed, M failed', and any failure makes the exit
- * status 1.
+ * it is a crash, which is told with the name of the test. Besides, the first and the last letters and the codes beside them. The last
+ * line is 'N passed, M failed', and any failure makes the exit status 1.
  */
 #define _DEFAULT_SOURCE /* MAP_ANONYMOUS */
 #include "marking.h"
@@ -149,6 +149,41 @@ static void whole_slices(void) {
     check(marking_mark(pattern, 3, pattern, 3, count) == 0 && *count == 1);
 }
 
+/* The codes at both ends of the letters and of the gap between them: alone, in a class and in a range, and as an answer. */
+static void edge_codes(void) {
+    static const struct {
+        const char *name;
+        uint8_t code;
+        int letter;
+    } codes[] = {{"code 31", 31, 0},   {"code 32", 32, 1},   {"code 126", 126, 1}, {"code 127", 127, 0}, {"code 128", 128, 0},
+                 {"code 159", 159, 0}, {"code 160", 160, 1}, {"code 255", 255, 1}, {"code 0", 0, 0}};
+    uint8_t *evidence = memory(MARKING_EVIDENCE, PROT_READ | PROT_WRITE);
+    for (size_t i = 0; i < sizeof codes / sizeof codes[0]; i++) {
+        char c = (char)codes[i].code;
+        enum marking_refusal as_pattern = codes[i].letter ? MARKING_ACCEPTED : MARKING_PATTERN_NO_LETTER;
+        enum marking_refusal as_answer = codes[i].letter ? MARKING_ACCEPTED : MARKING_ANSWER_NO_LETTER;
+        const char class_of[] = {'[', c, ']'}, others[] = {'[', '^', c, ']'}, range[] = {'[', ' ', '-', c, ']'};
+        const uint8_t *patterns[] = {at_the_end(&c, 1), at_the_end(class_of, 3), at_the_end(others, 4), at_the_end(range, 5)};
+        const size_t lens[] = {1, 3, 4, 5};
+        const uint8_t *dot = at_the_end(".", 1), *answer = patterns[0];
+        running = codes[i].name;
+        for (size_t k = 0; k < 4; k++) {
+            uint64_t count = 7;
+            uint64_t want = !codes[i].letter ? 7 : k == 2 ? 0 : 1; /* [^c] does not read it */
+            struct marking_vetted v = marking_vet_unpack(marking_vet(patterns[k], lens[k], evidence, MARKING_EVIDENCE));
+            struct marking_marked m = marking_mark_unpack(marking_mark(patterns[k], lens[k], answer, 1, &count));
+            check(v.refusal == as_pattern && v.positions == (codes[i].letter ? 1u : 0u));
+            check(m.refusal == as_pattern && count == want);
+        }
+        uint64_t count = 7;
+        check(marking_mark_unpack(marking_mark(dot, 1, answer, 1, &count)).refusal == as_answer);
+        check(count == (codes[i].letter ? 1 : 7));
+    }
+    running = "the texts shown, accented";
+    const uint8_t *steady = at_the_end("(\xe9|[\xe0-\xff])b", 10);
+    check(marking_vet_unpack(marking_vet(steady, 10, evidence, MARKING_EVIDENCE)).text_len == 2 && memcmp(evidence, "\xe9\x62", 2) == 0);
+}
+
 int main(void) {
     static char long_text[MARKING_ANSWER_MAX + 1];
     memset(long_text, 'a', sizeof long_text);
@@ -159,18 +194,23 @@ int main(void) {
         {"refusal 4", at_the_end("a\t", 2), 2, a, 1, MARKING_PATTERN_NO_LETTER},
         {"refusal 5", at_the_end("(a", 2), 2, a, 1, MARKING_PATTERN_GRAMMAR},
         {"refusal 6", at_the_end("[z-a]", 5), 5, a, 1, MARKING_RANGE_REVERSED},
-        {"refusal 7", at_the_end("[^ -~]", 6), 6, NULL, 0, MARKING_CLASS_EMPTY},
+        {"refusal 7", at_the_end("[^ -\xff]", 6), 6, NULL, 0, MARKING_CLASS_EMPTY},
         {"refusal 8", many, MARKING_POSITIONS_MAX + 1, a, 1, MARKING_TOO_MANY_POSITIONS},
+        {"refusal 4, code 127", at_the_end("a\x7f", 2), 2, a, 1, MARKING_PATTERN_NO_LETTER},
+        {"refusal 4, code 159", at_the_end("[z-\x9f]", 5), 5, a, 1, MARKING_PATTERN_NO_LETTER},
         {"refusal 9", a, 1, many, MARKING_ANSWER_MAX + 1, MARKING_ANSWER_TOO_LONG},
         {"refusal 10", a, 1, at_the_end("a\t", 2), 2, MARKING_ANSWER_NO_LETTER},
+        {"refusal 10, code 127", a, 1, at_the_end("a\x7f", 2), 2, MARKING_ANSWER_NO_LETTER},
+        {"refusal 10, code 159", a, 1, at_the_end("a\x9f", 2), 2, MARKING_ANSWER_NO_LETTER},
     };
     setvbuf(stdout, NULL, _IONBF, 0);
     signal(SIGSEGV, crashed);
     signal(SIGBUS, crashed);
     empty_slices();
     whole_slices();
-    refused_vets(cases, 6); /* the last two are of answers */
-    refused_marks(cases, 8);
+    edge_codes();
+    refused_vets(cases, 8); /* the last four are of answers */
+    refused_marks(cases, 12);
     printf("%d passed, %d failed\n", passed, failed);
     return failed != 0;
 }

@@ -87,10 +87,21 @@ static void refusals(void) {
     refused("the empty pattern", "", MARKING_PATTERN_GRAMMAR);
     refused("a closing bracket", "a)", MARKING_PATTERN_GRAMMAR);
     refused("[z-a]", "[z-a]", MARKING_RANGE_REVERSED);
-    refused("[^ -~]", "[^ -~]", MARKING_CLASS_EMPTY);
+    refused("a byte between the letters", "[z-\x9f]", MARKING_PATTERN_NO_LETTER);
+    refused("a class of no letter", "[^ -\xff]", MARKING_CLASS_EMPTY);
     check("a tab in the answer", marking_mark_unpack(marking_mark(bytes("a"), 1, bytes("\t"), 1, &count)).refusal ==
                                          MARKING_ANSWER_NO_LETTER &&
                                      count == 7);
+}
+
+/* Letters of ISO 8859-1: an e with an accent in the pattern, in a class and in the answer. */
+static void accents(void) {
+    uint64_t count = 7;
+    struct marking_vetted v = vet("caf\xe9");
+    check("an accent", v.refusal == MARKING_ACCEPTED && v.verdict == MARKING_SINGLE && v.positions == 4);
+    check("a class of the upper letters", vet("[^ -~]").refusal == MARKING_ACCEPTED && vet("[^ -~]").positions == 1);
+    check("an accent in the answer", marking_mark(bytes("caf[\xe8-\xea]=1"), 10, bytes("caf\xe9"), 4, &count) == 1 && count == 1);
+    check("the accent left out", marking_mark(bytes("caf\xe9"), 4, bytes("cafe"), 4, &count) == 0 && count == 0);
 }
 
 static void verdicts(void) {
@@ -135,6 +146,7 @@ static void version(void) {
 int main(void) {
     limits();
     refusals();
+    accents();
     verdicts();
     fields();
     version();

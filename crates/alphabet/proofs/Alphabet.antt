@@ -9,7 +9,7 @@ use native.Mathlib.Numerals.{add-one}
 use lib.Dec.{leb}
 use lib.ListN.{length, getD, drop}
 use lib.Seq.{drop-cons}
-use borrow.Author.Tests.{leb-true}
+use borrow.Author.Tests.{leb-true, le-leb}
 use Rattle.basics.specs.Choice.{if_then_else_}
 use Rattle.basics.proofs.Tests.{and-parts, and-of, or-cases, or-left, or-right, by-equal}
 use Rattle.alphabet.specs.Alphabet.{isLetter, allLetters, someFrom, lowestFrom, someLetter, lowestLetter}
@@ -42,12 +42,22 @@ some-from (suc n) k f c l m h =
     let below = some-from n (suc k) f c in
     by-equal k c (λ z. or-left (f k) (someFrom n (suc k) f) (ap f z ∙ h)) (λ z. or-right (f k) (someFrom n (suc k) f) (below (omega arith) (omega arith) h))
 
--- a letter is one of the 256 codes
-pub letter-code : (c : ℕ) → isLetter c ≡ true → c < 256
-letter-code c i =
-    ⊎-elim (λ h. let m = leb-true c 126 (and-parts (leb 32 c) (leb c 126) h .1) in omega arith)
-    (λ h. let m = leb-true c 255 (and-parts (leb 160 c) (leb c 255) h .1) in omega arith)
+-- ---- the two halves
+
+pub low-letter : (c : ℕ) → 32 ≤ c → c ≤ 126 → isLetter c ≡ true
+low-letter c l h = or-left (leb 32 c && leb c 126) (leb 160 c && leb c 255) (and-of (leb 32 c) (leb c 126) (le-leb 32 c l) (le-leb c 126 h))
+
+pub high-letter : (c : ℕ) → 160 ≤ c → c ≤ 255 → isLetter c ≡ true
+high-letter c l h = or-right (leb 32 c && leb c 126) (leb 160 c && leb c 255) (and-of (leb 160 c) (leb c 255) (le-leb 160 c l) (le-leb c 255 h))
+
+-- cases by the half of a letter
+pub by-letter : (P : Type 0) (c : ℕ) → isLetter c ≡ true → (32 ≤ c → c ≤ 126 → P) → (160 ≤ c → c ≤ 255 → P) → P
+by-letter P c i f g =
+    ⊎-elim (λ h. let p = and-parts (leb 32 c) (leb c 126) h in f (leb-true 32 c (p .0)) (leb-true c 126 (p .1)))
+    (λ h. let p = and-parts (leb 160 c) (leb c 255) h in g (leb-true 160 c (p .0)) (leb-true c 255 (p .1)))
     (or-cases (leb 32 c && leb c 126) (leb 160 c && leb c 255) i)
+
+-- ---- the lowest letter
 
 -- the lowest letter of a set that has one is a letter of it
 pub lowest-letter : (f : ℕ → Bool) → someLetter f ≡ true → (isLetter (lowestLetter f) ≡ true) × (f (lowestLetter f) ≡ true)
@@ -59,7 +69,9 @@ lowest-none f h c i l = sym (ap (λ (t : Bool). t && f c) i) ∙ lowest-from 256
 
 -- a set that holds a letter has one
 pub letter-some : (f : ℕ → Bool) (c : ℕ) → isLetter c ≡ true → f c ≡ true → someLetter f ≡ true
-letter-some f c i h = let l = letter-code c i in some-from 256 0 (λ c. isLetter c && f c) c (omega arith) (omega arith) (and-of (isLetter c) (f c) i h)
+letter-some f c i h =
+    let low : c < 256 = by-letter (c < 256) c i (λ a b. omega arith) (λ a b. omega arith) in
+    some-from 256 0 (λ c. isLetter c && f c) c (omega arith) low (and-of (isLetter c) (f c) i h)
 
 -- the letters of a text from a place on
 pub letters-from : (s : List ℕ) (i : ℕ) → i < length s → allLetters (drop i s) ≡ (isLetter (getD s i 0) && allLetters (drop (i + 1) s))

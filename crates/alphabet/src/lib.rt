@@ -9,16 +9,15 @@ pub fn is_letter(code: u8) -> bool
     ((32 <= code) & (code <= 126)) | (160 <= code)
 }
 
-// Is every byte a letter: so it is of none.
+// Is every byte a letter: so it is of none. All are looked at, whatever is found, since the loop is quicker without a way out.
 pub fn all_letters(s: &[u8]) -> bool
     ensures { λ r. ⌜ r ≡ allLetters (now (s .entry)) ⌝ }
 {
+    let mut good = true;
     let mut i = 0;
     while i < s.len() {
-        if !is_letter(s[i]) {
-            return false;
-        }
+        good = good & is_letter(s[i]);
         i += 1;
     }
-    true
+    good
 }

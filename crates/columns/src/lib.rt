@@ -38,7 +38,7 @@ pub fn holders_of(sets: [LetterSet; 61], positions: usize) -> [u64; 256]
 }
 
 // j put into the entries of a set.
-fn enter(table: &mut [u64], members: u64, j: usize)
+pub fn enter(table: &mut [u64], members: u64, j: usize)
     requires { ⌜ (members < 2 ^ 61) × (61 ≤ length (now table)) × (j < 64) ⌝ }
     ensures { λ _. ⌜ Entered (hasBit members) j (now (table .entry)) (now (table .exit)) ⌝ }
 {

@@ -57,14 +57,9 @@ pub same-from-high : (r s : LetterSet) → r .high ≡ s .high → (i : ℕ) →
 same-from-high r s e i = at-high r i ∙ ap (λ (x : ℕ). hasBit x i) e ∙ sym (at-high s i)
 
 pub same-from-middle : (r s : LetterSet) → r .middle ≡ s .middle → r .high ≡ s .high → (i : ℕ) → inSlot r (64 + i) ≡ inSlot s (64 + i)
-same-from-middle r s e f =
-    by-place 0 (λ (i : ℕ). inSlot r (64 + i) ≡ inSlot s (64 + i)) (λ i h. absurd (omega arith)) (λ i h. same i h) (λ i. past i)
-  where
-    same : (i : ℕ) → i < 64 → inSlot r (64 + (0 + i)) ≡ inSlot s (64 + (0 + i))
-    same i h = ap (inSlot r) (omega arith) ∙ at-middle r i h ∙ ap (λ (x : ℕ). hasBit x i) e ∙ sym (ap (inSlot s) (omega arith) ∙ at-middle s i h)
-
-    past : (i : ℕ) → inSlot r (64 + (0 + 64 + i)) ≡ inSlot s (64 + (0 + 64 + i))
-    past i = ap (inSlot r) (omega arith) ∙ same-from-high r s f i ∙ sym (ap (inSlot s) (omega arith))
+same-from-middle r s e f i =
+    ⊎-elim (λ h. subst (λ (j : ℕ). inSlot r j ≡ inSlot s j) (omega arith) (same-from-high r s f (i - 64)))
+    (λ h. at-middle r i h ∙ ap (λ (x : ℕ). hasBit x i) e ∙ sym (at-middle s i h)) (le-or-lt 64 i)
 
 -- ---- codes by their slots
 
@@ -87,12 +82,12 @@ by-codes r f e =
     (λ i l. code-in r i l ∙ e i l ∙ sym (ap (λ (t : Bool). t && f (codeAt i)) (slot-code i l .0)))
 
 -- and a set by its three words
-pub by-words : (r : LetterSet) (f : ℕ → Bool) → ((i : ℕ) → i < 64 → hasBit (r .low) i ≡ f (codeAt i)) → ((i : ℕ) → i < 64 → hasBit (r .middle) i ≡ f (codeAt (64 + i)))
+pub by-words : (r : LetterSet) (f : ℕ → Bool) → ((i : ℕ) → i < 64 → hasBit (r .low) i ≡ f (codeAt (0 + i))) → ((i : ℕ) → i < 64 → hasBit (r .middle) i ≡ f (codeAt (64 + i)))
     → ((i : ℕ) → i < 64 → hasBit (r .high) i ≡ f (codeAt (128 + i))) → (c : ℕ) → hasLetter r c ≡ (hasSlot c && f c)
 by-words r f a b d =
     by-codes r f
-    (by-place 64 (λ (i : ℕ). i < 192 → inSlot r i ≡ f (codeAt i)) (λ i h l. at-low r i h ∙ a i h) (λ i h l. at-middle r i h ∙ b i h)
-    (λ i l. at-high r i ∙ d i (omega arith)))
+    (by-place 64 (λ (i : ℕ). i < 192 → inSlot r i ≡ f (codeAt i)) (λ i h l. at-low r i h ∙ a i h ∙ ap (λ (j : ℕ). f (codeAt j)) (omega arith))
+    (λ i h l. at-middle r i h ∙ b i h) (λ i l. at-high r i ∙ d i (omega arith)))
 
 -- an operation that works bit by bit on the three words works code by code
 pub pointwise : (op : Bool → Bool → Bool) (r s t : LetterSet) → op false false ≡ false

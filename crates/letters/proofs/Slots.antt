@@ -1,20 +1,18 @@
 -- Codes and slots. The codes that have a slot are, in rising order, those of the slots 0 to 191. Assumes nothing.
-use mathlib.Core.Path.{_≡_, sym, ap, ap₂, _∙_, subst}
+use mathlib.Core.Path.{_≡_, sym, ap, _∙_, subst}
 use mathlib.Core.Logic.{⊎-elim}
-use mathlib.Core.Bool.{Bool, true, false, not, _&&_, _||_, and-false}
+use mathlib.Core.Bool.{Bool, true, false, not, _&&_}
 use Prim.Native.Nat.{ℕ, _+_, _-_, _≤_, _<_}
 use native.Mathlib.Omega.{arith}
 use lib.Dec.{eqb, leb, ltb}
-use borrow.Author.Tests.{leb-true, ltb-true, eqb-true, eqb-false, lt-ltb, le-ltb, le-leb, lt-leb, ne-eqb, eq-eqb, not-true}
+use borrow.Author.Tests.{leb-true, ltb-true, eqb-true, eqb-false, lt-ltb, le-ltb, le-leb, ne-eqb, eq-eqb, not-true}
 use Rattle.basics.specs.Choice.{if_then_else_}
 use Rattle.basics.proofs.Tests.{le-or-lt, and-parts, and-of, and-when, or-cases, or-left, or-right, same-test, by-test, if-yes, if-no}
 use Rattle.alphabet.specs.Alphabet.{isLetter}
+use Rattle.alphabet.proofs.Alphabet.{low-letter, high-letter, by-letter}
 use Rattle.letters.specs.LetterSet.{hasSlot, slotOf, codeAt}
 
 -- ---- the two halves
-
-or-of : (a b : Bool) → a ≡ false → b ≡ false → (a || b) ≡ false
-or-of a b p q = ap₂ _||_ p q
 
 pub slot-low : (c : ℕ) → c < 128 → slotOf c ≡ c - 32
 unfolding slotOf
@@ -40,16 +38,6 @@ pub has-high : (c : ℕ) → 160 ≤ c → c < 256 → hasSlot c ≡ true
 unfolding hasSlot
 has-high c l h = or-right (leb 32 c && ltb c 128) (leb 160 c && ltb c 256) (and-of (leb 160 c) (ltb c 256) (le-leb 160 c l) (lt-ltb c 256 h))
 
-pub below-none : (c : ℕ) → c < 32 → hasSlot c ≡ false
-unfolding hasSlot
-below-none c h = or-of (leb 32 c && ltb c 128) (leb 160 c && ltb c 256) (ap (λ (t : Bool). t && ltb c 128) (lt-leb 32 c h)) (ap (λ (t : Bool). t && ltb c 256) (lt-leb 160 c (omega arith)))
-
-pub between-none : (c : ℕ) → 128 ≤ c → c < 160 → hasSlot c ≡ false
-unfolding hasSlot
-between-none c l h =
-    or-of (leb 32 c && ltb c 128) (leb 160 c && ltb c 256) (ap (λ (t : Bool). leb 32 c && t) (le-ltb c 128 l) ∙ and-false (leb 32 c))
-    (ap (λ (t : Bool). t && ltb c 256) (lt-leb 160 c h))
-
 -- cases by the half of a code that has a slot, and by that of a slot
 pub by-half : (P : Type 0) (c : ℕ) → hasSlot c ≡ true → (32 ≤ c → c < 128 → slotOf c ≡ c - 32 → P) → (160 ≤ c → c < 256 → slotOf c ≡ c - 64 → P) → P
 unfolding hasSlot
@@ -61,6 +49,9 @@ by-half P c h f g =
 
 pub by-slot : (P : Type 0) (i : ℕ) → (i < 96 → codeAt i ≡ 32 + i → P) → (96 ≤ i → codeAt i ≡ 64 + i → P) → P
 by-slot P i f g = ⊎-elim (λ h. g h (code-high i h)) (λ h. f h (code-low i h)) (le-or-lt 96 i)
+
+pub no-slot : (c : ℕ) → (32 ≤ c → c < 128 → ⊥) → (160 ≤ c → c < 256 → ⊥) → hasSlot c ≡ false
+no-slot c f g = by-test (hasSlot c) (λ e. absurd (by-half ⊥ c e (λ a b k. f a b) (λ a b k. g a b))) (λ e. e)
 
 -- ---- the slot of a code and the code of a slot
 
@@ -97,11 +88,7 @@ code-equal i j l m =
 -- ---- letters have slots, and only slot 95 is no letter's
 
 pub letter-slot : (c : ℕ) → isLetter c ≡ true → hasSlot c ≡ true
-letter-slot c h =
-    ⊎-elim
-    (λ a. let p = and-parts (leb 32 c) (leb c 126) a in let m = leb-true c 126 (p .1) in has-low c (leb-true 32 c (p .0)) (omega arith))
-    (λ a. let p = and-parts (leb 160 c) (leb c 255) a in let m = leb-true c 255 (p .1) in has-high c (leb-true 160 c (p .0)) (omega arith))
-    (or-cases (leb 32 c && leb c 126) (leb 160 c && leb c 255) h)
+letter-slot c h = by-letter (hasSlot c ≡ true) c h (λ a b. has-low c a (omega arith)) (λ a b. has-high c a (omega arith))
 
 pub letter-has : (c : ℕ) (t : Bool) → (isLetter c && (hasSlot c && t)) ≡ (isLetter c && t)
 letter-has c t = and-when (isLetter c) (hasSlot c && t) t (λ h. ap (λ (u : Bool). u && t) (letter-slot c h))
@@ -110,18 +97,9 @@ pub letter-at : (i : ℕ) → i < 192 → isLetter (codeAt i) ≡ not (eqb 95 i)
 letter-at i l = same-test (isLetter (codeAt i)) (not (eqb 95 i)) (λ t. ap not (ne-eqb 95 i (λ e. other e t))) (λ t. letter (eqb-false 95 i (not-true (eqb 95 i) t)))
   where
     other : 95 ≡ i → isLetter (codeAt i) ≡ true → ⊥
-    other e t =
-        let k = code-low i (omega arith) in
-        ⊎-elim (λ a. let m = leb-true (codeAt i) 126 (and-parts (leb 32 (codeAt i)) (leb (codeAt i) 126) a .1) in omega arith)
-        (λ a. let m = leb-true 160 (codeAt i) (and-parts (leb 160 (codeAt i)) (leb (codeAt i) 255) a .0) in omega arith)
-        (or-cases (leb 32 (codeAt i) && leb (codeAt i) 126) (leb 160 (codeAt i) && leb (codeAt i) 255) t)
+    other e t = let k = code-low i (omega arith) in by-letter ⊥ (codeAt i) t (λ a b. omega arith) (λ a b. omega arith)
 
     letter : (95 ≡ i → ⊥) → isLetter (codeAt i) ≡ true
     letter d =
-        by-slot (isLetter (codeAt i) ≡ true) i
-        (λ h e.
-        or-left (leb 32 (codeAt i) && leb (codeAt i) 126) (leb 160 (codeAt i) && leb (codeAt i) 255)
-        (and-of (leb 32 (codeAt i)) (leb (codeAt i) 126) (le-leb 32 (codeAt i) (omega arith)) (le-leb (codeAt i) 126 (omega arith))))
-        (λ h e.
-        or-right (leb 32 (codeAt i) && leb (codeAt i) 126) (leb 160 (codeAt i) && leb (codeAt i) 255)
-        (and-of (leb 160 (codeAt i)) (leb (codeAt i) 255) (le-leb 160 (codeAt i) (omega arith)) (le-leb (codeAt i) 255 (omega arith))))
+        by-slot (isLetter (codeAt i) ≡ true) i (λ h e. low-letter (codeAt i) (omega arith) (omega arith))
+        (λ h e. high-letter (codeAt i) (omega arith) (omega arith))

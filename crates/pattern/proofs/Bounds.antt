@@ -28,7 +28,7 @@ module _ (p : Part) where
   last-within zero e = zero-le
   last-within (suc x) e = let l = last-own p 0 (suc x) e in omega arith
 
-  holds-position : (i b : ℕ) → holds (atomAt p i) b ≡ true → Own 0 p i
+  pub holds-position : (i b : ℕ) → holds (atomAt p i) b ≡ true → Own 0 p i
   holds-position zero b e = absurd (false≢true (sym (and-false (isLetter b)) ∙ e))
   holds-position (suc i) b e =
       ⊎-elim (λ h. absurd (false≢true (sym (ap (λ (a : Atom). holds a b) (List·getD-eq-default (atoms p) noAtom {n = i} h) ∙ and-false (isLetter b)) ∙ e)))

@@ -160,7 +160,7 @@ grammar =
     ∷ declines "[\u{7f}]" 4
     ∷ declines "[\u{80}]" 4
     ∷ declines "[\u{9f}]" 4
-    ∷ declines "\u{100}" 4
+    ∷ declines "Ā" 4
     -- checking order
     ∷ declines "(\u{1f}" 4
     ∷ declines "[z-a" 5

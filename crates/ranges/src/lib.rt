@@ -1,7 +1,7 @@
 // The sets of the letters from one code to another, and of one letter alone.
 use letters::LetterSet;
 ghost use mathlib.Core.Path.{_≡_};
-ghost use mathlib.Core.Bool.{true, _&&_};
+ghost use mathlib.Core.Bool.{_&&_};
 ghost use Prim.Native.Nat.{ℕ, _<_, _≤_, _+_};
 ghost use lib.Dec.{eqb, ltb, leb};
 ghost use Rattle.alphabet.specs.Alphabet.{isLetter};

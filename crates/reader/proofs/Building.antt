@@ -7,10 +7,10 @@ use mathlib.Core.List.{List}
 use mathlib.Core.Logic.{⊎-elim}
 use Prim.Native.Nat.{ℕ, zero, suc, _+_, _*_, _≤_, _<_}
 use native.Mathlib.Omega.{arith}
-use lib.Dec.{eqb, ltb}
+use lib.Dec.{eqb, ltb, leb}
 use lib.ListN.{length, getD, set, replicate}
 use lib.Seq.{take-all, getD-set-same, getD-set-other}
-use borrow.Author.Tests.{lt-ltb, le-ltb, ne-eqb, ltb-true}
+use borrow.Author.Tests.{lt-ltb, le-ltb, le-leb, ne-eqb, ltb-true}
 use Rattle.basics.specs.Choice.{if_then_else_}
 use Rattle.basics.proofs.Tests.{and-of, by-test, le-or-lt}
 use Rattle.basics.proofs.Lists.{alike}
@@ -28,7 +28,7 @@ use Rattle.pattern.specs.Parts.{Atom, holds, Part}
 use Rattle.pattern.specs.Grammar.{noAtom}
 use Rattle.pattern.specs.Positions.{atoms, positions, atomAt, isFirst, isLast, links, linksOf, lastOf, graphOf}
 use Rattle.pattern.proofs.Own.{first-own, last-own, follow-own}
-use Rattle.pattern.proofs.Bounds.{graph-bounded}
+use Rattle.pattern.proofs.Bounds.{graph-bounded, holds-position}
 use Rattle.links.specs.Rows.{kept, entry, number, after, NoneCounted}
 use Rattle.links.proofs.Counting.{after-few}
 use Rattle.parsed.specs.Tables.{atomOf, Stored}
@@ -67,7 +67,7 @@ single-shown b more e u i =
     ∙ ap (λ (n : ℕ). hasBit (getD (b .follow) u 0) i && some n) (e (61 * u + i))
     ∙ and-false (hasBit (getD (b .follow) u 0) i)
 
-module _ (p : ParsedRows) (sets credits : List ℕ) (held : List LetterSet) (lasts : ℕ) (long : 0 < length (p .rows)) (same : (i : ℕ) → setAt held i ≡ setIn sets i) (ends : (j : ℕ) → hasBit lasts j ≡ (hasBit (p .part .lasts) j || (p .part .empty && eqb 0 j))) where
+module _ (p : ParsedRows) (sets credits : List ℕ) (held : List LetterSet) (lasts : ℕ) (long : 0 < length (p .rows)) (same : (i c : ℕ) → hasLetter (setAt held i) c ≡ (leb i (p .part .n) && hasLetter (setIn sets i) c)) (ends : (j : ℕ) → hasBit lasts j ≡ (hasBit (p .part .lasts) j || (p .part .empty && eqb 0 j))) where
   abbrev made : Built
   made = record { positions = p .part .n; follow = set (p .rows) 0 (p .part .firsts); doubled = p .part .doubled; lasts = lasts; letters = held; credits = credits }
 
@@ -131,11 +131,17 @@ module _ (p : ParsedRows) (sets credits : List ℕ) (held : List LetterSet) (las
         ends (suc u) ∙ ap₂ _||_ (w .lasts (suc u) ∙ guard (kept (suc u)) (isLast 0 x (suc u)) (λ e. let o = last-own x 0 (suc u) e in lt-ltb (suc u) 61 (omega arith)))
         (ap (λ (b : Bool). p .part .empty && b) (ne-eqb 0 (suc u) (λ z. omega arith)) ∙ and-false (p .part .empty)) ∙ or-false (isLast 0 x (suc u))
 
+    held-at : (i c : ℕ) → hasLetter (setAt held i) c ≡ holds (atomAt x i) c
+    held-at i c =
+        same i c
+        ∙ ap (λ (b : Bool). leb i (p .part .n) && b) (w .stored .has i c ∙ ap (λ (a : Atom). holds a c) (atom-at x few i))
+        ∙ guard (leb i (p .part .n)) (holds (atomAt x i) c) (λ e. let o = holds-position x i c e in le-leb i (p .part .n) (omega (arith, w .count)))
+
     pub built-shown : graphOfBuilt made more ≡ graphOf x
     built-shown = λ t. record {
       positions = w .count t;
       links = λ u i. links-at u i t;
       last = λ u. last-at u t;
-      holds = λ i c. (ap (λ (s : LetterSet). hasLetter s c) (same i) ∙ w .stored .has i c ∙ ap (λ (a : Atom). holds a c) (atom-at x few i)) t;
+      holds = λ i c. held-at i c t;
       credit = λ i. (w .stored .credit i ∙ ap (λ (a : Atom). a .credit) (atom-at x few i)) t;
     }

@@ -2,6 +2,7 @@
 use graph::Built;
 use parts::ParsedRows;
 ghost use mathlib.Core.Path.{_≡_};
+ghost use Prim.Native.Nat.{_≤_};
 ghost use lib.ListN.{length};
 ghost use Rattle.set_table.specs.Table.{tableSize};
 ghost use Rattle.links.specs.Rows.{NoneCounted, Room};
@@ -71,13 +72,13 @@ fn refused(refusal: u8) -> ReadPattern
 // A pattern that nothing refuses, built of its links and of the tables. The state 0, before any letter, gets its row, the firsts, and
 // is a last where the pattern can be empty.
 fn accepted(p: ParsedRows, sets: &[u64], credits: [u8; 61]) -> ReadPattern
-    requires { ⌜ length (now sets) ≡ tableSize ⌝ }
+    requires { ⌜ (length (now sets) ≡ tableSize) × (p .part .n ≤ 60) ⌝ }
     ensures { λ r. ⌜ (r .refusal ≡ 0) × Builds p (now (sets .entry)) credits (r .built) ⌝ }
 {
     let part = p.part;
     let mut follow = p.rows;
     follow[0] = part.firsts;
-    let letters = set_table::sets(sets);
+    let letters = set_table::sets(sets, part.n);
     let built = Built {
         positions: part.n,
         follow: follow,

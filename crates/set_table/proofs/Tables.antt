@@ -1,18 +1,19 @@
 -- Tables of sets. The words of entry i stand at 3 i, 3 i + 1 and 3 i + 2, so no two entries share a word. Assumes nothing.
 use mathlib.Core.Path.{_≡_, sym, ap, _∙_}
-use mathlib.Core.Logic.{⊎-elim}
-use mathlib.Core.Bool.{false}
+use mathlib.Core.Bool.{Bool, false, _&&_}
 use mathlib.Core.List.{List}
-use Prim.Native.Nat.{ℕ, _+_, _*_, _≤_, _<_}
+use Prim.Native.Nat.{ℕ, _+_, _*_, _<_, zero-le}
 use native.Mathlib.Omega.{arith}
-use lib.ListN.{length, getD, set, replicate, length-set, List·getD-eq-default}
+use borrow.Author.Tests.{lt-ltb, le-ltb}
+use lib.Dec.{ltb}
+use lib.ListN.{length, getD, set, replicate, length-set}
 use lib.Seq.{getD-set-same, getD-set-other}
-use Rattle.basics.proofs.Tests.{by-equal, le-or-lt}
+use Rattle.basics.proofs.Tests.{by-equal, same-less}
 use Rattle.basics.proofs.Lists.{zeros}
 use Rattle.letters.specs.LetterSet.{hasLetter, setAt}
 use Rattle.letters.specs.declared.LetterSet.{LetterSet}
 use Rattle.set_table.specs.Table.{tableSize, setIn, Writes}
-use Rattle.letters.proofs.Sets.{zero-none}
+use Rattle.letters.proofs.Sets.{zero-none, all-empty}
 
 -- a table of zeros has no letter
 pub none-in : (n i c : ℕ) → hasLetter (setIn (replicate n 0) i) c ≡ false
@@ -47,31 +48,26 @@ writes table i s h size =
       };
     }
 
--- the sets from entry 61 on are empty
-pub past-last : (table : List ℕ) → length table ≡ tableSize → (i : ℕ) → 61 ≤ i → setIn table i ≡ record { low = 0; middle = 0; high = 0 }
-unfolding setIn
-past-last table size i h k = record {
-  low = List·getD-eq-default table 0 {n = 3 * i} (omega arith) k;
-  middle = List·getD-eq-default table 0 {n = 3 * i + 1} (omega arith) k;
-  high = List·getD-eq-default table 0 {n = 3 * i + 2} (omega arith) k;
-}
-
--- ---- the array of the sets, the first n of which are copied
+-- ---- the array of the sets, of which those below n are copied and the others are empty
 
 abbrev pub wordsOf : List ℕ → ℕ → LetterSet
 wordsOf table n = record { low = getD table (3 * n) 0; middle = getD table (3 * n + 1) 0; high = getD table (3 * n + 2) 0 }
 
 abbrev pub Copied : List ℕ → List LetterSet → ℕ → Type 0
-Copied table out n = (j : ℕ) → j < n → setAt out j ≡ setIn table j
+Copied table out n = (i c : ℕ) → hasLetter (setAt out i) c ≡ (ltb i n && hasLetter (setIn table i) c)
+
+pub copy-none : (table : List ℕ) (n : ℕ) (none : LetterSet) → ((c : ℕ) → hasLetter none c ≡ false) → Copied table (replicate n none) 0
+copy-none table n none empty i c = all-empty n none empty i c ∙ sym (ap (λ (t : Bool). t && hasLetter (setIn table i) c) (le-ltb i 0 zero-le))
 
 pub copy-one : (table : List ℕ) (out : List LetterSet) (n : ℕ) → n < length out → Copied table out n → Copied table (set out n (wordsOf table n)) (n + 1)
 unfolding setIn
-copy-one table out n h copied j l =
+copy-one table out n h copied i c =
     let s = wordsOf table n in
     let none : LetterSet = record { low = 0; middle = 0; high = 0 } in
-    by-equal j n (λ z. ap (setAt (set out n s)) z ∙ getD-set-same out n s none h ∙ ap (setIn table) (sym z))
-    (λ d. getD-set-other out n j s none d ∙ copied j (omega arith))
-
-pub copied-all : (table : List ℕ) (out : List LetterSet) → length table ≡ tableSize → length out ≡ 61 → Copied table out 61 → (i : ℕ) → setAt out i ≡ setIn table i
-copied-all table out size wide copied i =
-    ⊎-elim (λ h. List·getD-eq-default out record { low = 0; middle = 0; high = 0 } {n = i} (omega arith) ∙ sym (past-last table size i h)) (copied i) (le-or-lt 61 i)
+    by-equal i n
+    (λ z.
+    ap (λ (j : ℕ). hasLetter (setAt (set out n s) j) c) z ∙ ap (λ (t : LetterSet). hasLetter t c) (getD-set-same out n s none h ∙ ap (setIn table) (sym z))
+    ∙ sym (ap (λ (t : Bool). t && hasLetter (setIn table i) c) (lt-ltb i (n + 1) (omega arith))))
+    (λ d.
+    ap (λ (t : LetterSet). hasLetter t c) (getD-set-other out n i s none d) ∙ copied i c
+    ∙ ap (λ (t : Bool). t && hasLetter (setIn table i) c) (same-less i n i (n + 1) (λ l. omega arith) (λ l. omega arith)))

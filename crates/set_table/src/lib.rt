@@ -2,8 +2,9 @@
 // 3 i + 1 and 3 i + 2. Nothing outside this crate reads the words.
 use letters::LetterSet;
 ghost use mathlib.Core.Path.{_≡_};
-ghost use mathlib.Core.Bool.{false};
-ghost use Prim.Native.Nat.{ℕ, _<_};
+ghost use mathlib.Core.Bool.{false, _&&_};
+ghost use Prim.Native.Nat.{ℕ, _<_, _≤_};
+ghost use lib.Dec.{leb};
 ghost use lib.ListN.{length};
 ghost use Rattle.letters.specs.LetterSet.{hasLetter, setAt};
 ghost use Rattle.set_table.specs.Table.{tableSize, setIn, Writes};
@@ -25,19 +26,15 @@ pub fn write(table: &mut [u64], i: usize, s: LetterSet)
     table[3 * i + 2] = s.high;
 }
 
-// The sets of the entries 0 to 60.
-pub fn sets(table: &[u64]) -> [LetterSet; 61]
-    requires { ⌜ length (now table) ≡ tableSize ⌝ }
-    ensures { λ r. ⌜ ((i : ℕ) → setAt r i ≡ setIn (now (table .entry)) i) ⌝ }
+// The sets of the entries 0 to n, and empty ones after them.
+pub fn sets(table: &[u64], n: usize) -> [LetterSet; 61]
+    requires { ⌜ (length (now table) ≡ tableSize) × (n ≤ 60) ⌝ }
+    ensures { λ r. ⌜ ((i c : ℕ) → hasLetter (setAt r i) c ≡ (leb i n && hasLetter (setIn (now (table .entry)) i) c)) ⌝ }
 {
-    let none = LetterSet {
-        low: 0,
-        middle: 0,
-        high: 0,
-    };
+    let none = letters::empty();
     let mut out = [none; 61];
     let mut i = 0;
-    while i < 61 {
+    while i <= n {
         let s = LetterSet {
             low: table[3 * i],
             middle: table[3 * i + 1],

@@ -11,8 +11,8 @@ ghost use Rattle.alphabet.specs.Alphabet.{someLetter, isLetter};
 ghost use Rattle.letters.specs.LetterSet.{hasLetter};
 ghost use Rattle.shares.specs.Tables.{Within, isDoubled, NoneDoubled, held, Lettered};
 
-// The numbers up to `positions` whose sets share a letter with that of a, for every such a, in rows. The sets are read here and not
-// in a function of one row, which would copy them all.
+// The numbers up to `positions` whose sets share a letter with that of a, for every such a, in rows. Each pair is looked at once: what row
+// a gets of the numbers up to a, these get of a. The sets are read here and not in a function of one row, which would copy them all.
 pub fn share_rows(sets: [LetterSet; 61], rows: &mut [u64; 61], positions: usize)
     requires { ⌜ Lettered sets × (length (now rows) ≡ 61) × (positions ≤ 60) ⌝ }
     ensures { λ _. ⌜ ((a b : ℕ) → a ≤ positions → b ≤ positions → hasBit (getD (now (rows .exit)) a 0) b ≡ someLetter (held sets a b)) × (length (now (rows .exit)) ≡ 61) ⌝ }
@@ -22,11 +22,12 @@ pub fn share_rows(sets: [LetterSet; 61], rows: &mut [u64; 61], positions: usize)
         let s = sets[a];
         let mut word: u64 = 0;
         let mut b: usize = 0;
-        while b <= positions {
+        while b <= a {
             let t = sets[b];
             word = bits::with_if(word, b, share(s, t));
             b += 1;
         }
+        columns::enter(&mut *rows, word, a);
         rows[a] = word;
         a += 1;
     }

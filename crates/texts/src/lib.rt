@@ -3,11 +3,14 @@
 use letters::LetterSet;
 use search::Goal;
 ghost use mathlib.Core.Path.{_≡_};
+ghost use mathlib.Core.Bool.{true, _&&_};
 ghost use Prim.Native.Nat.{ℕ, _+_, _≤_, _<_};
 ghost use lib.ListN.{length, getD};
+ghost use Rattle.alphabet.specs.Alphabet.{isLetter, someLetter, lowestLetter};
+ghost use Rattle.letters.specs.LetterSet.{hasLetter};
 ghost use Rattle.nodes.specs.Nodes.{leftOf, rightOf, Step};
 ghost use Rattle.shares.specs.Tables.{Lettered};
-ghost use Rattle.texts.specs.Texts.{letterAt, Showable, LeadsBack, Behind, Traced, Shown};
+ghost use Rattle.texts.specs.Texts.{Showable, LeadsBack, Behind, Traced, Shown};
 
 // Stands for no text.
 pub const NO_TEXT: usize = 4096;
@@ -51,7 +54,8 @@ fn steps(scratch: &[u16], i: usize) -> usize
     n
 }
 
-// The letters of those n steps, written at base, the last one first.
+// The letters of those n steps, written at base, the last one first. The sets of a node are read here and not in a function of one
+// letter, which would copy them all.
 fn trace(
     sets: [LetterSet; 61],
     scratch: &[u16],
@@ -67,20 +71,21 @@ fn trace(
     let mut k = base + n;
     while 0 < at {
         k -= 1;
-        evidence[k] = letter(sets, scratch[at] as usize);
+        let x = scratch[at] as usize;
+        let a = left(x);
+        let b = right(x);
+        let s = sets[a];
+        let t = sets[b];
+        evidence[k] = letter(s, t);
         at = scratch[search::BACK + at] as usize;
     }
 }
 
 // The letter shown of a node: the lowest that both its sets hold.
-fn letter(sets: [LetterSet; 61], x: usize) -> u8
-    requires { ⌜ Lettered sets × Showable sets x ⌝ }
-    ensures { λ r. ⌜ r ≡ letterAt sets x ⌝ }
+fn letter(s: LetterSet, t: LetterSet) -> u8
+    requires { ⌜ ((c : ℕ) → hasLetter s c ≡ true → isLetter c ≡ true) × (someLetter (λ c. hasLetter s c && hasLetter t c) ≡ true) ⌝ }
+    ensures { λ r. ⌜ r ≡ lowestLetter (λ c. hasLetter s c && hasLetter t c) ⌝ }
 {
-    let a = left(x);
-    let b = right(x);
-    let s = sets[a];
-    let t = sets[b];
     letters::lowest(letters::intersection(s, t))
 }
 

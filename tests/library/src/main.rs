@@ -1,7 +1,7 @@
-//! Tests of the library against the rules: specimens, edges of every refusal, the last positions and the first past them, links by
-//! the hundred and counts at 2^63 by links, answers short and long, calls one after another, lent scratch, threads, what the pages
-//! claim, and random patterns and answers against an independent model. The last line is 'N passed, M failed'. Arguments: how many
-//! random patterns, and a seed.
+//! Tests of the library against the rules: specimens, every byte in patterns and in answers, French and Spanish texts, edges of every
+//! refusal, the last positions and the first past them, links by the hundred and counts at 2^63 by links, answers short and long, calls
+//! one after another, lent scratch, threads, what the pages claim, and random patterns and answers against an independent model. The
+//! last line is 'N passed, M failed'. Arguments: how many random patterns, and a seed.
 
 mod library;
 mod model;
@@ -34,8 +34,9 @@ impl Tally {
     }
 }
 
+/// A text in ISO 8859-1 to be printed.
 fn show(b: &[u8]) -> String {
-    String::from_utf8_lossy(b).into_owned()
+    b.iter().map(|b| char::from(*b)).collect()
 }
 
 const EVIDENCE: usize = 4096;
@@ -154,7 +155,7 @@ fn specimens(t: &mut Tally) {
         refuses(t, p, 5);
     }
     refuses(t, b"[z-a]", 6);
-    refuses(t, b"[^ -~]", 7);
+    refuses(t, b"[^ -\xff]", 7);
     verdict_is(t, &[b'a'; 60], 0);
     refuses(t, &[b'a'; 61], 8);
     let class = |n: usize| [&b"["[..], &vec![b'a'; n], b"]"].concat();
@@ -236,42 +237,195 @@ fn counts_by_links(t: &mut Tally) {
     }
 }
 
+/// The one-letter answers that the pattern reads are these, of all 191.
+fn reads_exactly(t: &mut Tally, pattern: &[u8], want: impl IntoIterator<Item = u8>) {
+    let want: Vec<u8> = want.into_iter().collect();
+    let as_wanted = |b: u8| mark(pattern, &[b]) == Ok(Marked::Answer { count: u64::from(want.contains(&b)), mark: 0 });
+    let wrong: Vec<u8> = model::letters().filter(|b| !as_wanted(*b)).collect();
+    t.check(wrong.is_empty(), || format!("mark {}: wrong on {}", show(pattern), show(&wrong)));
+}
+
+/// A pattern of one atom, which is single and reads these letters.
+fn one_atom(t: &mut Tally, pattern: &[u8], letters: impl IntoIterator<Item = u8>) {
+    let single = Vetted::Verdict { verdict: 0, positions: 1, texts: vec![Vec::new(); 3] };
+    t.same(vet(pattern, EVIDENCE, 5), Ok(single), &format!("vet {}", show(pattern)));
+    reads_exactly(t, pattern, letters);
+}
+
+/// A pattern of one atom, or one that is refused, as the model has it.
+fn one_atom_as_in_model(t: &mut Tally, pattern: &[u8]) {
+    match model::read(pattern) {
+        Err(refusal) => refuses(t, pattern, refusal),
+        Ok(p) => one_atom(t, pattern, p.positions[0].letters.iter().copied()),
+    }
+}
+
+/// Each of the 256 bytes as a pattern, in classes and ranges, and as an answer.
+fn every_byte(t: &mut Tally) {
+    let special = b"|*+?()[]{}^$.\\=";
+    let letters: Vec<u8> = (32..=126).chain(160..=255).collect();
+    t.same(model::letters().collect::<Vec<u8>>(), letters.clone(), "the letters of the model");
+    let mut no_letters = [0; 3];
+    for b in 0..=255u8 {
+        if !letters.contains(&b) {
+            refuses(t, &[b], 4);
+        } else if !special.contains(&b) {
+            one_atom(t, &[b], [b]);
+        }
+        // as it stands, and with a backslash
+        for letter in [&[b][..], &[b'\\', b]] {
+            one_atom_as_in_model(t, letter);
+            for (before, after) in [(&b"["[..], &b"]"[..]), (b"[^", b"]"), (b"[ -", b"]"), (b"[", b"-\xff]"), (b"[^ -", b"]"), (b"[^", b"-\xff]")] {
+                one_atom_as_in_model(t, &[before, letter, after].concat());
+            }
+            one_atom_as_in_model(t, &[b"[", letter, b"-", letter, b"]"].concat());
+        }
+        for (k, pattern) in [&b"."[..], b"[^a]", b"a*"].into_iter().enumerate() {
+            let p = model::read(pattern).expect("a good pattern");
+            as_in_model(t, pattern, &p, &[b], None);
+            no_letters[k] += u32::from(mark(pattern, &[b]) == Ok(Marked::Refused(10)));
+        }
+    }
+    t.same(no_letters, [65; 3], "the bytes that are no letters as an answer");
+    // ranges from each edge to each, also reversed and across the gap
+    let ends = [32, 33, 48, 63, 64, 65, 95, 97, 122, 125, 126, 160, 161, 190, 191, 192, 193, 223, 224, 233, 254, 255];
+    for a in ends {
+        for b in ends {
+            one_atom_as_in_model(t, &[b'[', a, b'-', b, b']']);
+            one_atom_as_in_model(t, &[b'[', b'^', a, b'-', b, b']']);
+        }
+    }
+}
+
+/// Letters of both halves, with codes to 126 and from 160 on, and the bytes beside them.
+fn french_and_spanish(t: &mut Tally) {
+    one_atom(t, b"[^ -~]", 160..=255);
+    one_atom(t, b"[z-\xe9]", (b'z'..=b'~').chain(160..=233));
+    one_atom(t, b"[~-\xa0]", [126, 160]);
+    one_atom(t, b"[ -\xff]", model::letters());
+    one_atom(t, b"[^ -~\xa1-\xff]", [160]);
+    one_atom(t, b"[^ -}\xa0-\xff]", *b"~");
+    one_atom(t, b"[^!-\xff]", *b" ");
+    one_atom(t, b"[^ -\xfe]", [255]);
+    one_atom(t, b"[\xe0\xe9\xe8]", [0xe0, 0xe8, 0xe9]);
+    for p in [&b"[^ -\xff]"[..], b"[^ -~\xa0-\xff]", b"[^\xa0-\xff ~!-}]", b"a[^ -\xff]*\xe9"] {
+        refuses(t, p, 7);
+    }
+    for p in [&b"[\xe9-e]"[..], b"[\xff-\xa0]", b"[\xa0-~]", b"[^\xe9-\xe8]", b"[a-\xff\xe9-z]"] {
+        refuses(t, p, 6);
+    }
+    for p in [&b"\\\xe9"[..], b"[\\\xe9]", b"\xe9**", b"[\xe9-]", b"[\xe0-\xe9-\xff]", b"\xe9=0", b"(\xe9", b"\xe9|"] {
+        refuses(t, p, 5);
+    }
+    for p in [&b"[z-\x9f]"[..], b"[\x7f-\xe9]", b"[\x80-\x9f]", b"[^\x9f]", b"(\x9f", b"\xc3\x89t\xc3\xa9"] {
+        refuses(t, p, 4);
+    }
+    for (b, letter) in [(31, false), (32, true), (126, true), (127, false), (128, false), (159, false), (160, true), (255, true)] {
+        for pattern in [&[b][..], &[b'a', b, b'*'], &[b'(', b'[', b'a', b, b']', b'|', b'b', b')'], &[b'[', b'^', b, b']', b'+']] {
+            if letter {
+                verdict_is(t, pattern, 0);
+            } else {
+                refuses(t, pattern, 4);
+            }
+        }
+        for pattern in [&b"a.b"[..], b"a[^a]b", b"a([ -~]|[^ -~])b", b"a[ -\xff]b", b".*"] {
+            let want = if letter { Marked::Answer { count: 1, mark: 0 } } else { Marked::Refused(10) };
+            t.same(mark(pattern, &[b'a', b, b'b']), Ok(want), &format!("mark {} with byte {b} in the answer", show(pattern)));
+        }
+    }
+    // the only text with two readings that the rules let a verdict show
+    let steady: [(&[u8], &[u8]); 6] = [
+        (b"(\xe9|[\xe0-\xff])b", b"\xe9b"),
+        (b"([\xe0-\xff]|[a-\xe9])b", b"\xe0b"),
+        (b"(.|[^ -~])b", b"\xa0b"),
+        (b"([^ -~]|\xff)b", b"\xffb"),
+        (b"([~\xff]|[z-\xff])\xf1", b"~\xf1"),
+        (b"([^\xa0-\xe8!-~ ]|[\xa1-\xff])\xa0", b"\xe9\xa0"),
+    ];
+    for (pattern, text) in steady {
+        verdict_is(t, pattern, 1);
+        let want = Vetted::Verdict { verdict: 1, positions: 3, texts: vec![text.to_vec(), Vec::new(), Vec::new()] };
+        t.same(vet(pattern, EVIDENCE, 6), Ok(want), &format!("vet {}", show(pattern)));
+    }
+    // x, y and z can have this letter alone
+    for (pattern, letter) in [(&b"(\xe9|\xe9)*"[..], 0xe9), (b"([^ -~]*)*", 160), (b"([\xff\xf1]|[\xf1-\xfe])+", 0xf1), (b"([~-\xe9]+)+", b'~')] {
+        verdict_is(t, pattern, 2);
+        let texts = match vet(pattern, EVIDENCE, 6) {
+            Ok(Vetted::Verdict { texts, .. }) => texts.concat(),
+            _ => Vec::new(),
+        };
+        t.check(!texts.is_empty() && texts.iter().all(|b| *b == letter), || format!("vet {}: shows {}", show(pattern), show(&texts)));
+    }
+    for (pattern, verdict) in [
+        (&b"(\xe9|\xe8|\xe9\xe8)*\xe7"[..], 2),
+        (b"(ma\xf1ana?|ma[n\xf1]an)", 1),
+        (b"[ -~]*[\xa0-\xff]*", 0),
+        (b"[a-\xe9]*[\xe9-\xff]*", 1),
+        (b"([a-\xe9]|[\xe9-\xff])*", 2),
+        (b"([a-z\xdf-\xff]+ ?)+", 2),
+        (b"([a-z\xdf-\xff]+ )+", 0),
+        (b"([^ -~]|[a-z])*", 0),
+        (b"([^ -~]|[a-\xa0])*", 2),
+        (b"(\xbfd\xf3nde|\xbfcu\xe1ndo) est\xe1\\?", 0),
+        (b".*\xe9.*", 1),
+    ] {
+        verdict_is(t, pattern, verdict);
+    }
+    marks(t, b"(\xe9|\xe9)t", b"\xe9t", 2, 0);
+    marks(t, b"(\xe9|e)t\xe9", b"ete", 0, 0);
+    marks(t, b"\xe9=2t|\xe9t=3", b"\xe9t", 2, 3);
+    marks(t, b"(\xe9=1|\xe9)*", b"\xe9\xe9\xe9", 8, 3);
+    marks(t, b"(\xe9*)*", b"\xe9\xe9\xe9", 4, 0);
+    marks(t, b"[a-\xe9]*[\xe9-\xff]*", b"a\xe9\xff", 2, 0);
+    marks(t, b"([a-z]+|[^ -~]=1)*", b"\xe9t\xe9 ", 0, 0);
+    marks(t, b"([a-z]|[^ -~]=1)*", b"\xe9t\xe9", 1, 2);
+    marks(t, b"\xbfd\xf3=2nde est\xe1=1(n|s)?\\?", b"\xbfd\xf3nde est\xe1s?", 1, 3);
+    for (n, count) in [(62, 1 << 62), (63, MOST), (4096, MOST)] {
+        marks(t, b"(\xff|\xff)*", &vec![255; n], count, 0);
+    }
+    marks(t, b"\xa0=9*", &[160; 4096], 1, 9 * 4096);
+    t.same(mark(b"\xe9*", &[0xe9; 4097]), Ok(Marked::Refused(9)), "4,097 letters");
+    verdict_is(t, &[255; 60], 0);
+    refuses(t, &[255; 61], 8);
+    let class = |n: usize| [&b"["[..], &vec![255; n], b"]"].concat();
+    one_atom(t, &class(510), [255]);
+    refuses(t, &class(511), 3);
+    // every letter from 160 on at once, as positions, as one class and as its letters one by one
+    let upper: Vec<u8> = (160..=255).collect();
+    one_atom(t, &[b"[", &upper[..], b"]"].concat(), 160..=255);
+    for sixty in [&upper[..60], &upper[36..]] {
+        verdict_is(t, sixty, 0);
+        marks(t, sixty, sixty, 1, 0);
+        let either = [b"(", &sixty.iter().map(|c| [*c]).collect::<Vec<_>>().join(&b'|')[..], b")*"].concat();
+        verdict_is(t, &either, 0);
+        marks(t, &either, &sixty.repeat(60), 1, 0);
+        reads_exactly(t, &either, sixty.iter().copied());
+    }
+}
+
 /// Both sides of each refusal's edge, and the order in which they are checked.
 fn edges(t: &mut Tally) {
-    for b in 0..=255u8 {
-        let want = model::read(&[b]).err().unwrap_or(0);
-        let got = match vet(&[b], EVIDENCE, b) {
-            Ok(Vetted::Refused(r)) => r,
-            Ok(_) => 0,
-            Err(_) => 99,
-        };
-        t.same(got, want, &format!("byte {b} as a pattern"));
-        let class = [b'[', b, b']'];
-        let got = match vet(&class, EVIDENCE, b) {
-            Ok(Vetted::Refused(r)) => r,
-            Ok(_) => 0,
-            Err(_) => 99,
-        };
-        t.same(got, model::read(&class).err().unwrap_or(0), &format!("byte {b} in a class"));
-        let want = if model::is_letter(b) { Marked::Answer { count: 1, mark: 0 } } else { Marked::Refused(10) };
-        t.same(mark(b".", &[b]), Ok(want), &format!("byte {b} as an answer"));
-    }
     let long = |n: usize, tail: &[u8]| [&vec![b'a'; n][..], tail].concat();
     refuses(t, &long(61, b""), 8);
     refuses(t, &long(61, b")"), 5);
     refuses(t, &long(61, b"[z-a]"), 6);
-    refuses(t, &long(61, b"[^ -~]"), 7);
-    refuses(t, &long(61, b"[^ -~][z-a]"), 6);
+    refuses(t, &long(61, b"[^ -\xff]"), 7);
+    refuses(t, &long(61, b"[^ -\xff][z-a]"), 6);
+    refuses(t, &long(61, b"[^ -~]"), 8);
     refuses(t, &long(512, b""), 8);
     refuses(t, &long(513, b""), 3);
     refuses(t, &long(511, b"\x1f"), 4);
     refuses(t, &long(512, b"\x1f"), 3);
     refuses(t, b"(\x7f", 4);
+    refuses(t, &long(511, b"\x9f"), 4);
+    refuses(t, &long(512, b"\x9f"), 3);
+    refuses(t, &long(511, b"\xa0"), 8);
     refuses(t, &vec![b'('; 512], 5);
     t.same(vet(b"(", 4095, 1), Ok(Vetted::Refused(1)), "refusal 1 before 5");
     t.same(mark(b"[z-a]", &[10; 5000]), Ok(Marked::Refused(6)), "refusal 6 before 9");
     t.same(mark(b"a", &[10; 4097]), Ok(Marked::Refused(9)), "refusal 9 before 10");
     t.same(mark(b"a", &[10; 4096]), Ok(Marked::Refused(10)), "refusal 10");
+    t.same(mark(b"a", &[128; 4096]), Ok(Marked::Refused(10)), "refusal 10, byte 128");
     let nested = [vec![b'('; 255], b"a".to_vec(), vec![b')'; 255]].concat();
     verdict_is(t, &nested, 0);
     let stars = b"a*".repeat(60);
@@ -285,14 +439,15 @@ fn edges(t: &mut Tally) {
 /// wherever it stands, and before there being too many.
 fn last_positions(t: &mut Tally) {
     let with = |before: usize, atom: &[u8], after: usize| [&vec![b'a'; before], atom, &vec![b'a'; after]].concat();
-    for atom in [&b"b=7"[..], b"[b-d]=1", b"[^a-z]=9", b".=5", b"\\*=3", b"[~ a]*", b"(b=2|[a-c]=4)"] {
+    let atoms = [&b"b=7"[..], b"[b-d]=1", b"[^a-z]=9", b".=5", b"\\*=3", b"[~ a]*", b"(b=2|[a-c]=4)"];
+    for atom in atoms.into_iter().chain([&b"\xe9=7"[..], b"[^ -~]=8", b"[b-\xa0]=6*", b"(\xe9=2|[\xe0-\xff]=4)"]) {
         for before in [0, 1, 30, 57, 58, 59] {
             let pattern = with(before, atom, 59 - before);
             match model::read(&pattern) {
                 Err(refusal) => refuses(t, &pattern, refusal),
                 Ok(p) => {
                     t.same(vet(&pattern, EVIDENCE, 2).map(|v| matches!(v, Vetted::Verdict { .. })), Ok(true), &show(&pattern));
-                    for b in b"ab* ~" {
+                    for b in b"ab* ~\xa0\xe9\xff" {
                         as_in_model(t, &pattern, &p, &with(before, &[*b], 59 - before), None);
                         as_in_model(t, &pattern, &p, &with(59 - before, &[*b], before), None);
                     }
@@ -303,7 +458,7 @@ fn last_positions(t: &mut Tally) {
         }
     }
     let broken = [&b"[^^ -~]"[..], b"a=0", b"[]", b"[a", b"\\a", b"a**", b"()"].map(|atom| (atom, 5));
-    for (atom, refusal) in [(&b"[z-a]"[..], 6), (b"[b-dz-a]", 6), (b"[^ -~]", 7)].into_iter().chain(broken) {
+    for (atom, refusal) in [(&b"[z-a]"[..], 6), (b"[b-dz-a]", 6), (b"[^ -\xff]", 7)].into_iter().chain(broken) {
         for before in [0, 1, 58, 59, 60, 61, 62, 300, 500] {
             let pattern = with(before, atom, 0);
             refuses(t, &pattern, refusal);
@@ -316,11 +471,11 @@ fn last_positions(t: &mut Tally) {
         }
     }
     for n in [0, 58, 59, 60, 61, 200, 450] {
-        refuses(t, &[b"[^ -~]", &with(n, b"[z-a]", 1)[..]].concat(), 6);
-        refuses(t, &[b"[z-a]", &with(n, b"[^ -~]", 1)[..]].concat(), 6);
-        refuses(t, &[b"[z-a][^ -~]", &with(n, b"{", 1)[..]].concat(), 5);
-        refuses(t, &[b"([z-a]|[^ -~])*", &with(n, b")", 1)[..]].concat(), 5);
-        refuses(t, &[b"(((", &with(n, b"[^ -~]))*)", 1)[..]].concat(), 7);
+        refuses(t, &[b"[^ -\xff]", &with(n, b"[z-a]", 1)[..]].concat(), 6);
+        refuses(t, &[b"[z-a]", &with(n, b"[^ -\xff]", 1)[..]].concat(), 6);
+        refuses(t, &[b"[z-a][^ -\xff]", &with(n, b"{", 1)[..]].concat(), 5);
+        refuses(t, &[b"([z-a]|[^ -\xff])*", &with(n, b")", 1)[..]].concat(), 5);
+        refuses(t, &[b"(((", &with(n, b"[^ -\xff]))*)", 1)[..]].concat(), 7);
         refuses(t, &[b"(((", &with(n, b"[b-a]))*)", 1)[..]].concat(), 6);
     }
 }
@@ -330,13 +485,15 @@ fn some_256_letters(t: &mut Tally) {
     let sixty: Vec<u8> = (b'A'..=b'Z').chain(b'a'..=b'z').chain(b'0'..=b'7').collect();
     let alternatives = [b"(", &sixty.iter().map(|c| [*c]).collect::<Vec<_>>().join(&b"=2|"[..])[..], b")*"].concat();
     let joined = [b"(", &sixty[..], b")*"].concat();
-    for pattern in [&b".*"[..], b"a=1*a=2*", b"(a=1|b=2|[c-f]=3)*", b"[^a]*", b"(a|a)*b?", &joined, &alternatives] {
+    let all: Vec<u8> = model::letters().collect();
+    let accented = &b"(a=1|[^ -~]=2|[b-\xe9]=3)*"[..];
+    for pattern in [&b".*"[..], b"a=1*a=2*", b"(a=1|b=2|[c-f]=3)*", b"[^a]*", b"(a|a)*b?", &joined, &alternatives, accented] {
         let p = model::read(pattern).expect("a good pattern");
         for n in [255, 256, 257] {
             let of = |letter: &dyn Fn(usize) -> u8| (0..n).map(letter).collect::<Vec<u8>>();
-            let mut answers = vec![of(&|_| b'a'), of(&|k| 32 + (k % 95) as u8), of(&|k| sixty[k % 60]), of(&|k| b"abcdef"[k * k % 6])];
+            let mut answers = vec![of(&|_| b'a'), of(&|k| all[k % 191]), of(&|k| sixty[k % 60]), of(&|k| b"abcdef"[k * k % 6])];
             for at in [0, n / 2, n - 1] {
-                for other in [b'b', b'~', b'g', 0, 31, 127, 255] {
+                for other in [b'b', b'~', b'g', 160, 233, 255, 0, 31, 127, 128, 159] {
                     let mut answer = vec![b'a'; n];
                     answer[at] = other;
                     answers.push(answer);
@@ -359,11 +516,11 @@ fn some_256_letters(t: &mut Tally) {
 /// What a call is given and finds plays no part in the next.
 fn one_after_another(t: &mut Tally) {
     let alternatives = [b"(", &b".=9|".repeat(59)[..], b".)*"].concat();
-    let full = [b"[ -~]=9*".repeat(60), b".=9".repeat(170), vec![b'('; 512], b"([^ -~]|[z-a]=9)*".to_vec(), alternatives];
-    for small in [&b"a"[..], b"a?", b"(a|b=1)*c", b"[b-d]e", b"a)", b"(a|a)*"] {
+    let full = [b"[ -\xff]=9*".repeat(60), b".=9".repeat(170), vec![b'('; 512], b"([^ -\xff]|[z-a]=9)*".to_vec(), alternatives];
+    for small in [&b"a"[..], b"a?", b"(a|b=1)*c", b"[b-d]e", b"a)", b"(a|a)*", b"(\xe9|[a-\xff])b"] {
         let alone = (vet(small, EVIDENCE, 4), mark(small, b"a"), mark(small, b""));
         for before in &full {
-            let _ = (vet(before, EVIDENCE, 8), mark(before, &[b'~'; 4096]));
+            let _ = (vet(before, EVIDENCE, 8), mark(before, &[255; 4096]));
             let now = (vet(small, EVIDENCE, 4), mark(small, b"a"), mark(small, b""));
             t.same(now, alone.clone(), &format!("{} after {}", show(small), show(&before[..8])));
         }
@@ -377,7 +534,7 @@ fn one_after_another(t: &mut Tally) {
 /// Scratch with garbage in it changes nothing, and too little of it is refused.
 fn scratch(t: &mut Tally) {
     let stars = b"a*".repeat(60);
-    for p in [&b"colou?r"[..], b"(a|a)b", b"(a|b|ab)*c", &stars] {
+    for p in [&b"colou?r"[..], b"(a|a)b", b"(a|b|ab)*c", b"(\xe9|[a-\xff])*", &stars] {
         for seed in 0..4 {
             t.same(vet_in(p, EVIDENCE, 8192, seed), vet(p, EVIDENCE, seed), &format!("vet {} in lent scratch", show(p)));
         }
@@ -489,6 +646,8 @@ fn main() {
     let seed = args.get(2).map_or(1, |a| a.parse().expect("a seed"));
     let mut t = Tally { passed: 0, failed: 0 };
     specimens(&mut t);
+    every_byte(&mut t);
+    french_and_spanish(&mut t);
     many_links(&mut t);
     counts_by_links(&mut t);
     edges(&mut t);

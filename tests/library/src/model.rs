@@ -45,7 +45,12 @@ const SPECIAL: &[u8] = b"|*+?()[]{}^$.\\=";
 const CLASS_SPECIAL: &[u8] = b"[]\\^-";
 
 pub fn is_letter(b: u8) -> bool {
-    (32..=126).contains(&b)
+    matches!(b, 32..=126 | 160..=255)
+}
+
+/// All letters, from the lowest on.
+pub fn letters() -> impl Iterator<Item = u8> {
+    (0..=255).filter(|b| is_letter(*b))
 }
 
 struct Parser<'a> {
@@ -112,7 +117,7 @@ impl Parser<'_> {
         self.at += 1;
         let letters: BTreeSet<u8> = match b {
             b'[' => self.class()?,
-            b'.' => (32..=126).collect(),
+            b'.' => letters().collect(),
             b'\\' => {
                 let c = self.peek().filter(|c| SPECIAL.contains(c)).ok_or(Broken)?;
                 self.at += 1;
@@ -169,7 +174,7 @@ impl Parser<'_> {
         if items == 0 || !self.take(b']') {
             return Err(Broken);
         }
-        Ok(if others { (32..=126).filter(|c| !named.contains(c)).collect() } else { named })
+        Ok(if others { letters().filter(|c| !named.contains(c)).collect() } else { named })
     }
 }
 

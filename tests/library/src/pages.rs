@@ -2,9 +2,12 @@
 //! README.md, docs/RULES.md and docs/VERDICTS.md.
 //!
 //! A table is told by its header (`row`). A text stands in a cell as it does in a sentence, between backticks, with `× n` after it
-//! where it is written n times; several of them are joined, and `(empty)` is the empty text. A phrase is one or more texts, parted
-//! by commas and 'and', and one of the words in `phrase`. The number of claims on each page is known, so that one which is no longer
-//! understood is noticed.
+//! where it is written n times; several of them are joined, `(byte n)` is one byte, and `(empty)` is the empty text. A phrase is one
+//! or more texts, parted by commas and 'and', and one of the words in `phrase`. The number of claims on each page is known, so that one
+//! which is no longer understood is noticed.
+//!
+//! The pages are UTF-8, and the library takes ISO 8859-1: each character of a text is the one byte of its code, and a text with a
+//! character past U+00FF is none. Where a table is about texts that were not converted, they are the page's own bytes.
 //!
 //! Besides: a rule that a definition names is a heading of docs/RULES.md, and the pictures have the figures of docs/BENCHMARKS.md.
 
@@ -14,7 +17,7 @@ use std::fs;
 use std::path::{Path, PathBuf};
 
 /// The pages, and how many claims each makes.
-const PAGES: [(&str, u32); 3] = [("README.md", 4), ("docs/RULES.md", 115), ("docs/VERDICTS.md", 180)];
+const PAGES: [(&str, u32); 3] = [("README.md", 6), ("docs/RULES.md", 175), ("docs/VERDICTS.md", 254)];
 
 /// Tables that make no claim of this kind, by their headers.
 const WORDS: [&str; 5] = [
@@ -86,14 +89,29 @@ fn figures(t: &mut Tally, name: &str) {
 
 // ---- texts and numbers
 
-/// The text of a cell; nothing if it is not one.
-fn text(cell: &str) -> Option<Vec<u8>> {
+/// A text of a page in ISO 8859-1; nothing if it has a character that is not there.
+fn latin1(text: &str) -> Option<Vec<u8>> {
+    text.chars().map(|c| u8::try_from(u32::from(c)).ok()).collect()
+}
+
+/// The same as the bytes that the page has, in UTF-8.
+fn not_converted(text: &str) -> Option<Vec<u8>> {
+    Some(text.as_bytes().to_vec())
+}
+
+/// The text of a cell, its pieces turned into bytes in one of these two ways; nothing if it is not one.
+fn text(cell: &str, bytes: fn(&str) -> Option<Vec<u8>>) -> Option<Vec<u8>> {
     if cell == "(empty)" {
         return Some(Vec::new());
     }
     let mut whole = Vec::new();
     let mut rest = cell.trim();
     while !rest.is_empty() {
+        if let Some((code, after)) = rest.strip_prefix("(byte ").and_then(|r| r.split_once(')')) {
+            whole.push(code.parse().ok()?);
+            rest = after.trim_start();
+            continue;
+        }
         let (piece, after) = rest.strip_prefix('`')?.split_once('`')?;
         // such a space is not shown
         if piece.starts_with(' ') && piece.ends_with(' ') && !piece.trim().is_empty() {
@@ -106,7 +124,7 @@ fn text(cell: &str) -> Option<Vec<u8>> {
             times = after[..digits].parse().ok()?;
             rest = after[digits..].trim_start();
         }
-        whole.extend(piece.as_bytes().repeat(times));
+        whole.extend(bytes(piece)?.repeat(times));
     }
     (!whole.is_empty()).then_some(whole)
 }
@@ -143,6 +161,14 @@ fn counted(pattern: &[u8], answer: &[u8]) -> Option<(u64, u64)> {
     match mark(pattern, answer) {
         Ok(Marked::Answer { count, mark }) => Some((count, u64::from(mark))),
         _ => None,
+    }
+}
+
+fn refusal_of_answer(pattern: &[u8], answer: &[u8]) -> u64 {
+    match mark(pattern, answer) {
+        Ok(Marked::Refused(k)) => u64::from(k),
+        Ok(_) => 0,
+        Err(_) => 99,
     }
 }
 
@@ -187,8 +213,12 @@ impl Row<'_> {
 
     /// The text of a column; a cell that is none is a failure.
     fn text(&self, t: &mut Tally, column: &str) -> Option<Vec<u8>> {
+        self.text_by(t, column, latin1)
+    }
+
+    fn text_by(&self, t: &mut Tally, column: &str, bytes: fn(&str) -> Option<Vec<u8>>) -> Option<Vec<u8>> {
         let cell = self.cell(column)?;
-        let got = text(cell);
+        let got = text(cell, bytes);
         if got.is_none() {
             t.check(false, || format!("{}: no text under {column}", self.name));
         }
@@ -221,13 +251,25 @@ impl Row<'_> {
             self.refused(t, &refused);
         } else if let Some(old) = self.text(t, "instead of") {
             self.repair(t, &old);
+        } else if let Some(missing) = self.cell("ISO 8859-1 has no") {
+            self.missing(t, missing);
         } else {
             t.check(false, || format!("{}: a table of no known form", self.name));
         }
     }
 
-    /// pattern, answer, readings, and perhaps mark; a pattern under 'write' decides the answer the other way.
+    /// pattern, answer, and a refusal, or readings and perhaps mark; a pattern under 'write' decides the answer the other way. Under
+    /// 'not converted' are the readings that the same answer has where neither it nor the pattern was converted.
     fn answer(&self, t: &mut Tally, pattern: &[u8], answer: &[u8]) {
+        if self.cell("refusal").is_some() {
+            self.is_number(t, "refusal", refusal_of_answer(pattern, answer));
+            return;
+        }
+        if self.cell("not converted").is_some() {
+            let (p, a) = (self.text_by(t, "pattern", not_converted), self.text_by(t, "answer", not_converted));
+            let raw = p.zip(a).and_then(|(p, a)| counted(&p, &a));
+            self.is_number(t, "not converted", raw.map_or(99, |r| r.0));
+        }
         let Some((count, best)) = counted(pattern, answer) else {
             t.check(false, || format!("{}: refused", self.name));
             return;
@@ -257,6 +299,16 @@ impl Row<'_> {
     /// refused, its refusal, and what to write, which reads an answer.
     fn refused(&self, t: &mut Tally, refused: &[u8]) {
         self.is_number(t, "refusal", refusal(refused));
+        if let (Some(better), Some(answer)) = (self.text(t, "write"), self.text(t, "which reads")) {
+            t.check(reads(&better, &answer), || format!("{}: which reads", self.name));
+        }
+    }
+
+    /// characters that ISO 8859-1 does not have, and what to write, which reads an answer.
+    fn missing(&self, t: &mut Tally, cell: &str) {
+        let characters: Vec<&str> = cell.split('`').skip(1).step_by(2).collect();
+        let none = |s: &&str| s.chars().count() == 1 && latin1(s).is_none();
+        t.check(!characters.is_empty() && characters.iter().all(none), || format!("{}: it has", self.name));
         if let (Some(better), Some(answer)) = (self.text(t, "write"), self.text(t, "which reads")) {
             t.check(reads(&better, &answer), || format!("{}: which reads", self.name));
         }
@@ -329,13 +381,14 @@ fn joins(between: &str) -> bool {
     [", ", " and ", " or "].contains(&between)
 }
 
-/// The texts of a list that begins at part `from`, and the part of the words after it.
-fn list<'a>(parts: &[&'a str], from: usize) -> (Vec<&'a [u8]>, usize) {
+/// The texts of a list that begins at part `from`, and the part of the words after it. One that is not in ISO 8859-1 is left out: no
+/// claim is made of it, or the number of claims is wrong.
+fn list(parts: &[&str], from: usize) -> (Vec<Vec<u8>>, usize) {
     let mut end = from + 1;
     while end + 1 < parts.len() && joins(parts[end]) {
         end += 2;
     }
-    ((from..end).step_by(2).map(|k| parts[k].as_bytes()).collect(), end)
+    ((from..end).step_by(2).filter_map(|k| latin1(parts[k])).collect(), end)
 }
 
 /// A claim in prose: one or more texts, and words after them that say something of each.
@@ -343,13 +396,24 @@ fn phrase(t: &mut Tally, page: &str, parts: &[&str], from: usize) {
     let (subjects, end) = list(parts, from);
     let words = parts.get(end).copied().unwrap_or("");
     let objects = if end + 1 < parts.len() { list(parts, end + 1).0 } else { Vec::new() };
-    for s in subjects {
+    for s in &subjects {
         let name = format!("{page}: `{}`{words}", show(s));
         if words.starts_with(" break the grammar") || words.starts_with(" breaks the grammar") {
             t.same(refusal(s), 5, &name);
         }
         if words.starts_with(" is good") {
             t.same(refusal(s), 0, &name);
+        }
+        if words.starts_with(" are refused by 4 unless they are converted") {
+            let raw = not_converted(&show(s)).map(|r| refusal(&r));
+            t.same((refusal(s), raw), (0, Some(4)), &name);
+        }
+        if let Some(codes) = words.strip_prefix(" reads the codes ") {
+            let codes = codes.split([',', '.', ';']).next().unwrap_or("");
+            let ends: Vec<u8> = codes.split(' ').filter_map(|n| n.parse().ok()).collect();
+            let told = |b: u8| ends.chunks(2).any(|e| e[0] <= b && b <= e[1]);
+            let wrong = (0..=255).find(|b| reads(s, &[*b]) != told(*b));
+            t.same(wrong, None, &format!("{name}: the first code that is wrong"));
         }
         for v in ["single", "steady", "runaway"] {
             if words.starts_with(&format!(" is {v}")) {

@@ -1,5 +1,6 @@
 //! A second opinion on membership: the platform's regcomp and regexec, on the pattern written out as a POSIX extended
-//! expression with one bracket expression for each position.
+//! expression with one bracket expression for each position. The tests set no locale, and in that of C regcomp takes each byte for a
+//! letter of its own, those above 127 too. Ranges are written out, so that no order of letters plays a part.
 
 use crate::model::{Part, Pattern};
 use std::ffi::{c_char, c_int, c_void, CString};
@@ -13,10 +14,10 @@ extern "C" {
 const REG_EXTENDED: c_int = 1;
 const REG_NOSUB: c_int = 8;
 
-fn bracket(letters: impl Iterator<Item = u8>, out: &mut String) {
+fn bracket(letters: impl Iterator<Item = u8>, out: &mut Vec<u8>) {
     let set: Vec<u8> = letters.collect();
     if set == *b"^" {
-        out.push_str("\\^");
+        out.extend(b"\\^");
         return;
     }
     // `]` stands first, `^` not first, `-` first or last, and nothing after `[` makes a class name
@@ -30,19 +31,19 @@ fn bracket(letters: impl Iterator<Item = u8>, out: &mut String) {
     if set.contains(&b'-') && inner[0] != b'-' {
         inner.push(b'-');
     }
-    out.push('[');
-    out.extend(inner.into_iter().map(char::from));
-    out.push(']');
+    out.push(b'[');
+    out.extend(inner);
+    out.push(b']');
 }
 
-fn written(p: &Pattern, part: &Part, out: &mut String) {
-    out.push('(');
+fn written(p: &Pattern, part: &Part, out: &mut Vec<u8>) {
+    out.push(b'(');
     match part {
         Part::Letter(i) => bracket(p.positions[*i - 1].letters.iter().copied(), out),
         Part::Either(parts) => {
             for (k, q) in parts.iter().enumerate() {
                 if k > 0 {
-                    out.push('|');
+                    out.push(b'|');
                 }
                 written(p, q, out);
             }
@@ -50,10 +51,10 @@ fn written(p: &Pattern, part: &Part, out: &mut String) {
         Part::Joined(parts) => parts.iter().for_each(|q| written(p, q, out)),
         Part::Repeat(k, q) => {
             written(p, q, out);
-            out.push(*k as char);
+            out.push(*k);
         }
     }
-    out.push(')');
+    out.push(b')');
 }
 
 /// How many repeats stand one in another. The time that regcomp takes can double with each.
@@ -71,9 +72,9 @@ pub struct Regex {
 
 impl Regex {
     pub fn new(p: &Pattern) -> Option<Self> {
-        let mut text = String::from("^");
+        let mut text = b"^".to_vec();
         written(p, &p.tree, &mut text);
-        text.push('$');
+        text.push(b'$');
         let mut memory = Box::new([0u64; 64]);
         let c = CString::new(text).ok()?;
         let status = unsafe { regcomp(memory.as_mut_ptr().cast(), c.as_ptr(), REG_EXTENDED | REG_NOSUB) };

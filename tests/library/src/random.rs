@@ -1,6 +1,6 @@
 //! Random patterns and answers, from a seed that is printed.
 
-use crate::model::{Part, Pattern};
+use crate::model::{letters, Part, Pattern};
 
 /// xorshift64*
 pub struct Random(u64);
@@ -30,19 +30,62 @@ impl Random {
     }
 }
 
+/// What a random pattern is made of: `wild` ones often break the grammar, `accented` ones have letters above code 159 too.
+#[derive(Clone, Copy)]
+struct Kind {
+    wild: bool,
+    accented: bool,
+}
+
 /// The letters that most random patterns are made of: few, so that sets overlap.
 const LETTERS: &[u8] = b"aabbc";
-const CLASSES: &[&str] = &["[ab]", "[a-c]", "[bc]", "[^a]", "[^ab]", "[c-b]", "[^ -~]", "[a\\-]", "[\\]b]", "[-a]", "[]", "[^]", "[a-]", "[ -~]"];
-const ESCAPES: &[&str] = &["\\*", "\\.", "\\(", "\\\\", "\\=", "\\a", "\\"];
+const CLASSES: &[&[u8]] =
+    &[b"[ab]", b"[a-c]", b"[bc]", b"[^a]", b"[^ab]", b"[c-b]", b"[^ -\xff]", b"[a\\-]", b"[\\]b]", b"[-a]", b"[]", b"[^]", b"[a-]", b"[ -~]"];
+const ESCAPES: &[&[u8]] = &[b"\\*", b"\\.", b"\\(", b"\\\\", b"\\=", b"\\a", b"\\"];
 
-fn lettered(r: &mut Random, out: &mut Vec<u8>, wild: bool) {
-    match r.below(if wild { 12 } else { 9 }) {
-        0..=5 => out.push(*r.pick(LETTERS)),
-        6 => out.push(b'.'),
-        7 | 8 => out.extend(r.pick(&CLASSES[..if wild { CLASSES.len() } else { 5 }]).bytes()),
-        9 => out.extend(r.pick(ESCAPES).bytes()),
-        10 => out.push(*r.pick(b"dxyz~ ")),
-        _ => out.push(*r.pick(b"|*+?()[]{}^$.\\=-")),
+/// The same for accented patterns, and what only wild ones have.
+const ACCENTED: &[u8] = b"\xe9\xe9\xe9\xf1\xa0\xff";
+const ACCENTED_CLASSES: &[&[u8]] =
+    &[b"[a\xe9]", b"[\xe0-\xff]", b"[\xa0-\xe9]", b"[b-\xe9]", b"[~-\xa0]", b"[^ -~]", b"[^\xe9]", b"[^a-\xe9]", b"[^\xe9-\xff]", b"[^b\xf1]"];
+const ACCENTED_WILD: &[&[u8]] =
+    &[b"[ -\xff]", b"[^ -\xff]", b"[\xe9-a]", b"[\xff-\xe9]", b"[z-\x9f]", b"[\x7f-\xe9]", b"[a\x80]", b"[\xe9-]", b"[\\\xe9]", b"\\\xe9"];
+
+/// A range of any two letters, perhaps with `^`; a wild one may be reversed.
+fn range(r: &mut Random, out: &mut Vec<u8>, wild: bool) {
+    let all: Vec<u8> = letters().collect();
+    let (a, b) = (*r.pick(&all), *r.pick(&all));
+    let ends = if wild && r.chance(20) { [a, b] } else { [a.min(b), a.max(b)] };
+    out.extend(if r.chance(30) { &b"[^"[..] } else { b"[" });
+    for (k, c) in ends.into_iter().enumerate() {
+        if k == 1 {
+            out.push(b'-');
+        }
+        if b"[]\\^-".contains(&c) {
+            out.push(b'\\');
+        }
+        out.push(c);
+    }
+    out.push(b']');
+}
+
+fn lettered(r: &mut Random, out: &mut Vec<u8>, kind: Kind) {
+    let wild = kind.wild;
+    if kind.accented && r.chance(50) {
+        match r.below(if wild { 8 } else { 6 }) {
+            0..=2 => out.push(*r.pick(ACCENTED)),
+            3 | 4 => out.extend(*r.pick(ACCENTED_CLASSES)),
+            5 => range(r, out, wild),
+            _ => out.extend(*r.pick(ACCENTED_WILD)),
+        }
+    } else {
+        match r.below(if wild { 12 } else { 9 }) {
+            0..=5 => out.push(*r.pick(LETTERS)),
+            6 => out.push(b'.'),
+            7 | 8 => out.extend(*r.pick(&CLASSES[..if wild { CLASSES.len() } else { 5 }])),
+            9 => out.extend(*r.pick(ESCAPES)),
+            10 => out.push(*r.pick(b"dxyz~ ")),
+            _ => out.push(*r.pick(b"|*+?()[]{}^$.\\=-")),
+        }
     }
     if r.chance(25) {
         out.push(b'=');
@@ -51,11 +94,11 @@ fn lettered(r: &mut Random, out: &mut Vec<u8>, wild: bool) {
 }
 
 /// A pattern with one to three brackets around it, now and then up to thirty, most of them with a repeat.
-fn nested(r: &mut Random, out: &mut Vec<u8>, depth: usize, wild: bool) {
+fn nested(r: &mut Random, out: &mut Vec<u8>, depth: usize, kind: Kind) {
     let most = if r.chance(4) { 30 } else { 3 };
     let times = 1 + r.below(most);
     out.extend(vec![b'('; times]);
-    pattern_into(r, out, depth, wild);
+    pattern_into(r, out, depth, kind);
     for _ in 0..times {
         out.push(b')');
         if r.chance(90) {
@@ -64,42 +107,43 @@ fn nested(r: &mut Random, out: &mut Vec<u8>, depth: usize, wild: bool) {
     }
 }
 
-fn piece(r: &mut Random, out: &mut Vec<u8>, depth: usize, wild: bool) {
+fn piece(r: &mut Random, out: &mut Vec<u8>, depth: usize, kind: Kind) {
     if depth > 0 && r.chance(12) {
-        nested(r, out, depth - 1, wild);
+        nested(r, out, depth - 1, kind);
         return;
     }
     if depth > 0 && r.chance(35) {
         out.push(b'(');
-        pattern_into(r, out, depth - 1, wild);
+        pattern_into(r, out, depth - 1, kind);
         out.push(b')');
     } else {
-        lettered(r, out, wild);
+        lettered(r, out, kind);
     }
     if r.chance(45) {
         out.push(*r.pick(b"**+?"));
-        if wild && r.chance(4) {
+        if kind.wild && r.chance(4) {
             out.push(*r.pick(b"*+?"));
         }
     }
 }
 
-fn pattern_into(r: &mut Random, out: &mut Vec<u8>, depth: usize, wild: bool) {
+fn pattern_into(r: &mut Random, out: &mut Vec<u8>, depth: usize, kind: Kind) {
     for k in 0..1 + r.below(3) {
         if k > 0 {
             out.push(b'|');
         }
         for _ in 0..1 + r.below(3) {
-            piece(r, out, depth, wild);
+            piece(r, out, depth, kind);
         }
     }
 }
 
-/// A pattern that follows the grammar, most of the time; `wild` ones often do not.
+/// A pattern that follows the grammar, most of the time; `wild` ones often do not. A fifth are accented.
 pub fn pattern(r: &mut Random, wild: bool) -> Vec<u8> {
     let mut out = Vec::new();
+    let kind = Kind { wild, accented: r.chance(20) };
     let depth = r.below(4);
-    pattern_into(r, &mut out, depth, wild);
+    pattern_into(r, &mut out, depth, kind);
     out.truncate(520);
     if wild && r.chance(30) && !out.is_empty() {
         let at = r.below(out.len());
@@ -108,7 +152,7 @@ pub fn pattern(r: &mut Random, wild: bool) -> Vec<u8> {
             1 => {
                 out.remove(at);
             }
-            _ => out.insert(at, *r.pick(b"|*+?()[]{}^$.\\=-a")),
+            _ => out.insert(at, *r.pick(b"|*+?()[]{}^$.\\=-a\xe9")),
         }
     }
     out
@@ -117,8 +161,9 @@ pub fn pattern(r: &mut Random, wild: bool) -> Vec<u8> {
 /// Repeats in repeats around a pattern, so that an answer may have many rounds.
 pub fn rounds(r: &mut Random) -> Vec<u8> {
     let mut out = vec![b'('];
+    let kind = Kind { wild: false, accented: r.chance(20) };
     let depth = r.below(2);
-    nested(r, &mut out, depth, false);
+    nested(r, &mut out, depth, kind);
     out.extend(b")*");
     out
 }
@@ -133,7 +178,9 @@ fn walk(r: &mut Random, p: &Pattern, part: &Part, out: &mut Vec<u8>, left: &mut 
         Part::Letter(i) => {
             let set: Vec<u8> = p.positions[*i - 1].letters.iter().copied().collect();
             if !set.is_empty() {
-                out.push(*r.pick(&set[..set.len().min(4)]));
+                // mostly a low one, so that others hold it too
+                let among = if r.chance(20) { set.len() } else { set.len().min(4) };
+                out.push(*r.pick(&set[..among]));
             }
         }
         Part::Either(parts) => {
@@ -163,7 +210,7 @@ pub fn answer(r: &mut Random, p: &Pattern) -> Vec<u8> {
     let mut out = Vec::new();
     if r.chance(15) {
         for _ in 0..r.below(6) {
-            out.push(*r.pick(b"abc"));
+            out.push(*r.pick(b"abcabc\xe9"));
         }
         return out;
     }
@@ -171,10 +218,10 @@ pub fn answer(r: &mut Random, p: &Pattern) -> Vec<u8> {
     out.truncate(10);
     if r.chance(20) && !out.is_empty() {
         let at = r.below(out.len());
-        out[at] = *r.pick(b"abc~ ");
+        out[at] = *r.pick(b"abc~ \xa0\xe9\xff");
     }
     if r.chance(2) {
-        out.push(*r.pick(&[10u8, 127, 31, 200, 0]));
+        out.push(*r.pick(&[10u8, 127, 31, 128, 159, 0]));
     }
     out
 }

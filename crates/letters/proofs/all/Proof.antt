@@ -1,9 +1,8 @@
 -- Every slot is in but 95, and that is the one that is no letter's. Assumes nothing.
 use mathlib.Core.Path.{_≡_, sym, ap, ap₂, _∙_}
-use mathlib.Core.Bool.{Bool, true, false, not, _&&_}
+use mathlib.Core.Bool.{Bool, not, _&&_}
 use Prim.Native.Nat.{ℕ, _+_, _-_, _^_, _<_}
 use native.Mathlib.Omega.{arith}
-use lib.Dec.{eqb, ltb}
 use borrow.Author.Tests.{lt-ltb, ne-eqb}
 use Rattle.basics.proofs.Tests.{same-test, and-parts, and-of, equal-added}
 use Rattle.bits.specs.Bits.{hasBit}
@@ -28,7 +27,7 @@ but-one i h =
 returns : tie.Need-returns
 returns c k =
     by-words record { low = 2 ^ 64 - 1; middle = 2 ^ 64 - 1 - 2 ^ 31; high = 2 ^ 64 - 1 } isLetter
-    (λ i h. full 0 i h (omega arith) (λ e. omega arith) ∙ ap (λ (j : ℕ). isLetter (codeAt j)) (omega arith))
+    (λ i h. full 0 i h (omega arith) (λ e. omega arith))
     but-one
     (λ i h. full 128 i h (omega arith) (λ e. omega arith)) k
     ∙ same-test (hasSlot k && isLetter k) (isLetter k) (λ t. and-parts (hasSlot k) (isLetter k) t .1) (λ t. and-of (hasSlot k) (isLetter k) (letter-slot k t) t)

@@ -3,7 +3,6 @@ use mathlib.Core.Path.{_≡_, sym, ap, ap₂, _∙_}
 use mathlib.Core.Bool.{Bool, not, _&&_}
 use Prim.Native.Nat.{ℕ, _+_, _-_, _^_, _<_}
 use native.Mathlib.Omega.{arith}
-use lib.Dec.{ltb}
 use borrow.Author.Needs.{needs}
 use borrow.Author.Tests.{lt-ltb}
 use Rattle.bits.specs.Bits.{hasBit}
@@ -32,7 +31,7 @@ returns c k =
     let others : LetterSet = record { low = 2 ^ 64 - 1 - s .low; middle = 2 ^ 64 - 1 - s .middle; high = 2 ^ 64 - 1 - s .high } in
     let free : hasLetter others k ≡ (hasSlot k && not (hasLetter s k))
     = by-words others (λ d. not (hasLetter s d))
-    (λ i h. turned s 0 (s .low) i (omega arith) h (omega arith) (ap (inSlot s) (omega arith) ∙ at-low s i h) ∙ ap (λ (j : ℕ). not (hasLetter s (codeAt j))) (omega arith))
+    (λ i h. turned s 0 (s .low) i (omega arith) h (omega arith) (ap (inSlot s) (omega arith) ∙ at-low s i h))
     (λ i h. turned s 64 (s .middle) i (omega arith) h (omega arith) (at-middle s i h))
     (λ i h. turned s 128 (s .high) i (omega arith) h (omega arith) (at-high s i)) k in
     c .intersection .ensures k ∙ ap₂ _&&_ (c .before .all .ensures k) free

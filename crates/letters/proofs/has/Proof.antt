@@ -1,16 +1,16 @@
 -- The code has a slot in the one half or in the other, or none. Assumes nothing.
-use mathlib.Core.Path.{_≡_, sym, ap, _∙_}
+use mathlib.Core.Path.{sym, ap, _∙_}
 use Prim.Native.Nat.{_-_}
 use native.Mathlib.Omega.{arith}
 use borrow.Author.Needs.{needs}
 use Rattle.letters.specs.LetterSet.{inSlot}
-use Rattle.letters.proofs.Slots.{has-low, has-high, below-none, between-none, slot-low, slot-high}
+use Rattle.letters.proofs.Slots.{has-low, has-high, no-slot, slot-low, slot-high}
 use Rattle.letters.proofs.Sets.{not-in, is-in}
 use Rattle.letters.proofs.has.Statement.{statement}
 use Rattle.letters.proofs.has.Tie as tie
 
 returns : tie.Need-returns
-returns c = let a = c .before .args in sym (not-in (a .s) (a .code) (below-none (a .code) (omega arith)))
+returns c = let a = c .before .args in sym (not-in (a .s) (a .code) (no-slot (a .code) (λ l h. omega arith) (λ l h. omega arith)))
 
 cast-has-at : tie.Need-cast-has-at
 cast-has-at c = search needs
@@ -24,7 +24,7 @@ returns-2 c =
     c .has-at .ensures ∙ sym (is-in (a .s) (a .code) (has-low (a .code) (omega arith) (omega arith)) ∙ ap (inSlot (a .s)) (slot-low (a .code) (omega arith)))
 
 returns-3 : tie.Need-returns-3
-returns-3 c = let a = c .before .before .before .args in sym (not-in (a .s) (a .code) (between-none (a .code) (omega arith) (omega arith)))
+returns-3 c = let a = c .before .before .before .args in sym (not-in (a .s) (a .code) (no-slot (a .code) (λ l h. omega arith) (λ l h. omega arith)))
 
 sub-has-at : tie.Need-sub-has-at
 sub-has-at c = search needs

@@ -1,6 +1,5 @@
 -- The words stand in the order of their codes, so the lowest letter is the least member of the first word that is not empty. Assumes nothing.
 use mathlib.Core.Path.{sym, ap, _∙_, subst}
-use Prim.Native.Nat.{ℕ, _+_}
 use native.Mathlib.Omega.{arith}
 use borrow.Author.Needs.{needs}
 use Rattle.letters.specs.LetterSet.{codeAt, LeastLetter}

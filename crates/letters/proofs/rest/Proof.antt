@@ -1,10 +1,8 @@
 -- The lowest letter is the least member of the first word that has one, and what `bits::rest` takes off the word is taken
 -- off the set. Assumes nothing.
-use mathlib.Core.Path.{_≡_, refl, sym, ap, _∙_}
-use Prim.Native.Nat.{ℕ, _+_}
+use mathlib.Core.Path.{refl, sym, _∙_}
 use native.Mathlib.Omega.{arith}
 use borrow.Author.Needs.{needs}
-use Rattle.letters.specs.LetterSet.{inSlot}
 use Rattle.letters.specs.declared.LetterSet.{LetterSet}
 use Rattle.letters.proofs.Sets.{at-past, rest-of, low-word, middle-word, high-word, high-some, same-from-middle, same-from-high}
 use Rattle.letters.proofs.rest.Statement.{statement}

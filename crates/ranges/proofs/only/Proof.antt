@@ -1,6 +1,6 @@
 -- The code is no letter, or its slot is the only one in the three words. Assumes nothing.
-use mathlib.Core.Path.{_≡_, sym, ap, ap₂, _∙_}
-use mathlib.Core.Bool.{Bool, true, false, not, _&&_, and-false}
+use mathlib.Core.Path.{_≡_, sym, ap, _∙_}
+use mathlib.Core.Bool.{Bool, true, false, _&&_, and-false}
 use Prim.Native.Nat.{ℕ, _+_, _<_}
 use native.Mathlib.Omega.{arith}
 use lib.Dec.{eqb, leb}
@@ -9,7 +9,7 @@ use borrow.Author.Tests.{leb-true, eqb-true, eq-eqb, ne-eqb, le-leb, not-true, n
 use Rattle.basics.proofs.Tests.{and-parts, and-of, same-test, by-equal}
 use Rattle.bits.specs.Bits.{hasBit}
 use Rattle.alphabet.specs.Alphabet.{isLetter}
-use Rattle.letters.specs.LetterSet.{codeAt, slotOf, hasSlot, hasLetter}
+use Rattle.letters.specs.LetterSet.{codeAt, slotOf, hasSlot}
 use Rattle.letters.specs.declared.LetterSet.{LetterSet}
 use Rattle.letters.proofs.Slots.{slot-small, code-slot, code-equal, letter-slot}
 use Rattle.letters.proofs.Sets.{by-words}
@@ -78,7 +78,7 @@ returns-2 c k =
     let high = c .bit3 in
     let r : LetterSet = record { low = low .result; middle = middle .result; high = high .result } in
     by-words r (eqb code)
-    (λ i m. in-word code (slot .result) 0 (low .result) i h (slot .ensures) (omega arith) (low .ensures i m) ∙ ap (λ (j : ℕ). eqb code (codeAt j)) (omega arith))
+    (λ i m. in-word code (slot .result) 0 (low .result) i h (slot .ensures) (omega arith) (low .ensures i m))
     (λ i m. in-word code (slot .result) 64 (middle .result) i h (slot .ensures) (omega arith) (middle .ensures i m))
     (λ i m. in-word code (slot .result) 128 (high .result) i h (slot .ensures) (omega arith) (high .ensures i m)) k
     ∙ same-test (hasSlot k && eqb code k) (isLetter k && eqb code k)

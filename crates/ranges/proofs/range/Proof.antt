@@ -64,7 +64,7 @@ returns c k =
     let fits = inside a b (from .result) (to .result) (from .ensures) (to .ensures) in
     let held : hasLetter codes k ≡ (hasSlot k && (leb a k && leb k b))
     = by-words codes (λ d. leb a d && leb d b)
-    (λ i h. fits 0 (low .result) (low .ensures) i h (omega arith) ∙ ap (λ (j : ℕ). leb a (codeAt j) && leb (codeAt j) b) (omega arith))
+    (λ i h. fits 0 (low .result) (low .ensures) i h (omega arith))
     (λ i h. fits 64 (middle .result) (middle .ensures) i h (omega arith))
     (λ i h. fits 128 (high .result) (high .ensures) i h (omega arith)) k in
     c .intersection .ensures k ∙ ap₂ _&&_ (c .before .all .ensures k) held ∙ letter-has k (leb a k && leb k b)

@@ -1,35 +1,44 @@
--- The rows passed are filled, and the word of the row at hand has, of the numbers passed, those that share a letter with a.
--- Assumes nothing.
+-- The rows passed have the numbers passed that share a letter with theirs, and so has the word of the row at hand. Assumes nothing.
 use mathlib.Core.Path.{_≡_, sym, ap, ap₂, _∙_}
-use mathlib.Core.Bool.{Bool, _&&_, _||_}
-use Prim.Native.Nat.{ℕ, _+_, _-_, _≤_, _<_, zero-le}
+use mathlib.Core.Bool.{Bool, _&&_, _||_, and-comm}
+use mathlib.Core.List.{List}
+use Prim.Native.Nat.{ℕ, _+_, _-_, _^_, _≤_, _<_, zero-le}
 use native.Mathlib.Omega.{arith}
 use borrow.Author.Tests.{lt-ltb, le-ltb}
 use lib.Dec.{eqb, ltb}
 use lib.ListN.{getD, length, length-set}
 use Rattle.basics.proofs.Tests.{one-further}
 use Rattle.bits.specs.Bits.{hasBit}
-use Rattle.bits.proofs.Laws.{has-none}
+use Rattle.bits.proofs.Laws.{has-none, lt-of-high}
 use Rattle.alphabet.specs.Alphabet.{someLetter}
+use Rattle.letters.specs.LetterSet.{hasLetter, setAt}
+use Rattle.letters.specs.declared.LetterSet.{LetterSet}
 use Rattle.shares.specs.Tables.{held}
-use Rattle.shares.proofs.Filling.{row-filled}
+use Rattle.shares.proofs.Filling.{rows-grown}
 use Rattle.shares.proofs.share_rows.Statement.{statement}
 use Rattle.shares.proofs.share_rows.Tie as tie
 
+-- do two sets share a letter, in either order
+abbrev shared : List LetterSet → ℕ → ℕ → Bool
+shared sets a b = someLetter (held sets a b)
+
+swap : (sets : List LetterSet) (a b : ℕ) → shared sets a b ≡ shared sets b a
+swap sets a b = ap someLetter (λ i c. and-comm (hasLetter (setAt sets a) c) (hasLetter (setAt sets b) c) i)
+
 abbrev Inv-loop2 : tie.InvT-loop2
-Inv-loop2 rows positions sets a s word₀ b₀ word b = (b ≤ positions + 1) × ((j : ℕ) → hasBit word j ≡ (ltb j b && someLetter (held sets a j)))
+Inv-loop2 rows positions sets a s word₀ b₀ word b = (b ≤ a + 1) × (word < 2 ^ 64) × ((j : ℕ) → hasBit word j ≡ (ltb j b && shared sets a j))
 
 abbrev μ-loop2 : tie.MeasureT-loop2
-μ-loop2 rows positions sets a s word₀ b₀ word b = positions + 1 - b
+μ-loop2 rows positions sets a s word₀ b₀ word b = a + 1 - b
 
 abbrev Inv-loop : tie.InvT-loop
-Inv-loop rows₀ positions sets a₀ rows a = (a ≤ positions + 1) × ((length rows ≡ 61) × ((i b : ℕ) → i < a → b ≤ positions → hasBit (getD rows i 0) b ≡ someLetter (held sets i b)))
+Inv-loop rows₀ positions sets a₀ rows a = (a ≤ positions + 1) × (length rows ≡ 61) × ((i j : ℕ) → i < a → hasBit (getD rows i 0) j ≡ (ltb j a && shared sets i j))
 
 abbrev μ-loop : tie.MeasureT-loop
 μ-loop rows₀ positions sets a₀ rows a = positions + 1 - a
 
 loop-holds : tie.Need-loop-holds Inv-loop2 μ-loop2 Inv-loop μ-loop
-loop-holds c = (omega arith, (c .pre .1, λ i b l. absurd (omega arith)))
+loop-holds c = (omega arith, c .pre .1, λ i j l. absurd (omega arith))
 
 mul-s : tie.Need-mul-s Inv-loop2 μ-loop2 Inv-loop μ-loop
 mul-s c = omega arith
@@ -38,7 +47,7 @@ array-copy-out-s : tie.Need-array-copy-out-s Inv-loop2 μ-loop2 Inv-loop μ-loop
 array-copy-out-s c = omega (arith, c .before .before .pre .2)
 
 loop2-holds : tie.Need-loop2-holds Inv-loop2 μ-loop2 Inv-loop μ-loop
-loop2-holds c = (omega arith, λ j. has-none j ∙ sym (ap (λ (t : Bool). t && someLetter (held (c .before .before .before .args .t1) (c .before .before .loop .a) j)) (le-ltb j 0 zero-le)))
+loop2-holds c = (omega arith, omega arith, λ j. has-none j ∙ sym (ap (λ (t : Bool). t && shared (c .before .before .before .args .t1) (c .before .before .loop .a) j) (le-ltb j 0 zero-le)))
 
 mul-t : tie.Need-mul-t Inv-loop2 μ-loop2 Inv-loop μ-loop
 mul-t c = omega arith
@@ -60,12 +69,21 @@ loop2-less c = omega arith
 
 loop2-again : tie.Need-loop2-again Inv-loop2 μ-loop2 Inv-loop μ-loop
 loop2-again c =
-    let s = c .before .before .before .before .before .before .before .before .args .t1 in
+    let sets = c .before .before .before .before .before .before .before .before .args .t1 in
     let a = c .before .before .before .before .before .before .before .loop .a in
-    let b = c .before .before .before .before .loop2 .b in (
+    let l = c .before .before .before .before .loop2 in (
       omega arith,
-      λ j. c .with-if .ensures j
-          ∙ ap₂ (λ (x y : Bool). x || (y && eqb b j)) (c .before .before .before .before .loop2 .inv .1 j) (c .before .share .ensures) ∙ one-further (λ i. someLetter (held s a i)) b j,
+      c .with-if .ok,
+      λ j. c .with-if .ensures j ∙ ap₂ (λ (x y : Bool). x || (y && eqb (l .b) j)) (l .inv .2 j) (c .before .share .ensures) ∙ one-further (shared sets a) (l .b) j,
+    )
+
+enter-requires : tie.Need-enter-requires Inv-loop2 μ-loop2 Inv-loop μ-loop
+enter-requires c κs =
+    let l = c .before .before .before .before .before .loop in
+    let w = c .before .before .loop2 in (
+      lt-of-high 61 (w .word) (w .inv .1) (λ j h. w .inv .2 j ∙ ap (λ (t : Bool). t && shared (c .before .before .before .before .before .before .args .t1) (l .a) j) (le-ltb j (w .b) (omega arith))),
+      omega (arith, l .inv .1),
+      omega arith,
     )
 
 mul-rows : tie.Need-mul-rows Inv-loop2 μ-loop2 Inv-loop μ-loop
@@ -82,22 +100,19 @@ loop-less c = omega arith
 
 loop-again : tie.Need-loop-again Inv-loop2 μ-loop2 Inv-loop μ-loop
 loop-again c =
-    let sets = c .before .before .before .before .before .args .t1 in
-    let l = c .before .before .before .before .loop in
-    let w = c .before .loop2 in
-    let last = c .before .before .before .before .before .args .positions in
-    let size = l .inv .1 .0 in (
+    let sets = c .before .before .before .before .before .before .before .args .t1 in
+    let l = c .before .before .before .before .before .before .loop in
+    let w = c .before .before .before .loop2 in
+    let e = c .enter .ensures in
+    let all : w .b ≡ l .a + 1 = omega arith in (
       omega arith,
-      (
-        length-set (l .rows) (l .a) (w .word) ∙ size,
-        λ i b k m.
-            row-filled (λ i word. (b : ℕ) → b ≤ last → hasBit word b ≡ someLetter (held sets i b)) (l .rows) (l .a) (w .word) (omega arith) (λ i k b m. l .inv .1 .1 i b k m)
-            (λ b m. w .inv .1 b ∙ ap (λ (t : Bool). t && someLetter (held sets (l .a) b)) (lt-ltb b (w .b) (omega arith))) i k b m,
-      ),
+      length-set (c .enter .last .0) (l .a) (w .word) ∙ e .size ∙ l .inv .1,
+      rows-grown (shared sets) (swap sets) (l .rows) (c .enter .last .0) (l .a) (w .word) (omega (arith, e .size, l .inv .1)) (l .inv .2)
+          (λ j. w .inv .2 j ∙ ap (λ (n : ℕ). ltb j n && shared sets (l .a) j) all) (e .has),
     )
 
 returns : tie.Need-returns Inv-loop2 μ-loop2 Inv-loop μ-loop
-returns c = (λ a b k m. c .before .loop .inv .1 .1 a b (omega arith) m, c .before .loop .inv .1 .0)
+returns c = (λ a b k m. c .before .loop .inv .2 a b (omega arith) ∙ ap (λ (t : Bool). t && shared (c .before .before .args .t1) a b) (lt-ltb b (c .before .loop .a) (omega arith)), c .before .loop .inv .1)
 
 pub share-rows-spec : {M : Type 1} → statement M
 share-rows-spec =
@@ -118,6 +133,7 @@ share-rows-spec =
     add-b
     loop2-less
     loop2-again
+    enter-requires
     mul-rows
     element-write-rows
     add-a
