@@ -1,6 +1,10 @@
 // The letters, of ISO 8859-1. What depends on which codes are letters stands here, and in the words of a set (`letters`, `ranges`).
 ghost use mathlib.Core.Path.{_≡_};
-ghost use Rattle.alphabet.specs.Alphabet.{isLetter, allLetters};
+ghost use mathlib.Core.Bool.{_&&_};
+ghost use Prim.Native.Nat.{_<_, _≤_};
+ghost use lib.Dec.{leb};
+ghost use lib.ListN.{length};
+ghost use Rattle.alphabet.specs.Alphabet.{isLetter, allLetters, Turned};
 
 // Is the code a letter: one of the 191 from 32 to 126 and from 160 to 255.
 pub fn is_letter(code: u8) -> bool
@@ -20,4 +24,26 @@ pub fn all_letters(s: &[u8]) -> bool
         i += 1;
     }
     good
+}
+
+// In a table by codes, the members of a mask are turned over in the entry of each letter: what was in is out, and what was out is in.
+pub fn turn_letters(table: &mut [u64], mask: u64)
+    requires { ⌜ 256 ≤ length (now table) ⌝ }
+    ensures { λ _. ⌜ Turned isLetter mask (now (table .entry)) (now (table .exit)) ⌝ }
+{
+    turn(&mut *table, 32, 126, mask);
+    turn(&mut *table, 160, 255, mask);
+}
+
+// The same in the entries from `first` to `last`.
+fn turn(table: &mut [u64], first: usize, last: usize, mask: u64)
+    requires { ⌜ (first ≤ last) × (last < 256) × (256 ≤ length (now table)) ⌝ }
+    ensures { λ _. ⌜ Turned (λ c. leb first c && leb c last) mask (now (table .entry)) (now (table .exit)) ⌝ }
+{
+    let mut k = first;
+    while k <= last {
+        let old = table[k];
+        table[k] = bits::union(bits::difference(mask, old), bits::difference(old, mask));
+        k += 1;
+    }
 }

@@ -2,12 +2,13 @@
 use mathlib.Core.Path.{_≡_}
 use mathlib.Core.Bool.{Bool, true, _&&_, _||_}
 use mathlib.Core.List.{List}
-use Prim.Native.Nat.{ℕ, _+_, _-_}
-use lib.Dec.{ltb, leb}
+use Prim.Native.Nat.{ℕ, _+_, _-_, _^_}
+use lib.Dec.{eqb, ltb, leb}
 use lib.ListN.{getD}
 use Rattle.basics.specs.Choice.{if_then_else_}
 use Rattle.basics.specs.Folds.{LeastOf}
 use Rattle.bits.specs.Bits.{hasBit}
+use Rattle.alphabet.specs.Alphabet.{isLetter}
 use Rattle.letters.specs.declared.LetterSet.{LetterSet}
 
 -- has the code c a slot in a set, and which: 32 to 127 have 0 to 95, and 160 to 255 have 96 to 191
@@ -38,6 +39,10 @@ pub record Some (s : LetterSet) : Type 0 where
 abbrev pub LeastLetter : LetterSet → ℕ → Type 0
 LeastLetter s c = LeastOf (hasLetter s) c
 
+-- are all 64 slots of the codes from 192 on in s
+abbrev pub isWide : LetterSet → Bool
+isWide s = eqb (s .high) (2 ^ 64 - 1)
+
 -- a number that falls with each letter taken out
 abbrev pub weight : LetterSet → ℕ
 weight s = s .low + s .middle + s .high
@@ -45,3 +50,7 @@ weight s = s .low + s .middle + s .high
 -- the set of entry i of an array of sets, empty past the last
 abbrev pub setAt : List LetterSet → ℕ → LetterSet
 setAt sets i = getD sets i record { low = 0; middle = 0; high = 0 }
+
+-- the sets of an array hold letters only
+abbrev pub Lettered : List LetterSet → Type 0
+Lettered sets = (i c : ℕ) → hasLetter (setAt sets i) c ≡ true → isLetter c ≡ true

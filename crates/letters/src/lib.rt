@@ -5,7 +5,7 @@ ghost use mathlib.Core.Bool.{true, false, not, _&&_, _||_};
 ghost use Prim.Native.Nat.{ℕ, _<_};
 ghost use Rattle.basics.specs.Folds.{Less};
 ghost use Rattle.alphabet.specs.Alphabet.{isLetter};
-ghost use Rattle.letters.specs.LetterSet.{inSlot, hasSlot, slotOf, codeAt, hasLetter, Some, LeastLetter, weight};
+ghost use Rattle.letters.specs.LetterSet.{inSlot, hasSlot, slotOf, codeAt, hasLetter, Some, LeastLetter, isWide, weight};
 
 // A set has 192 slots, a bit each: 0 to 63 are those of `low`, then come those of `middle` and of `high`. The codes 32 to 127 have the
 // slots 0 to 95, and 160 to 255 have 96 to 191. All of these are letters but 127, slot 95: the functions that make a set
@@ -113,6 +113,13 @@ pub fn is_empty(s: LetterSet) -> bool
         return false;
     }
     s.high == 0
+}
+
+// Has the set all letters from 192 on. Such a set is most often one of nearly all letters, and sooner told by those that it lacks.
+pub fn is_wide(s: LetterSet) -> bool
+    ensures { λ r. ⌜ r ≡ isWide s ⌝ }
+{
+    s.high == 0xffff_ffff_ffff_ffff
 }
 
 // The lowest letter of a set that is not empty.

@@ -6,7 +6,6 @@ use mathlib.Core.List.{List}
 use Prim.Native.Nat.{ℕ, _+_, _*_, _≤_}
 use lib.ListN.{getD}
 use Rattle.bits.specs.Bits.{hasBit}
-use Rattle.alphabet.specs.Alphabet.{isLetter}
 use Rattle.letters.specs.LetterSet.{hasLetter}
 use Rattle.letters.specs.declared.LetterSet.{LetterSet}
 use Rattle.graph.specs.Graph.{some, Graph, isPosition, next, doubled}
@@ -45,7 +44,3 @@ NoneDoubled F more = (u i : ℕ) → isDoubled F more u i ≡ false
 -- a code that the sets of two positions both hold
 abbrev pub held : List LetterSet → ℕ → ℕ → ℕ → Bool
 held sets a b c = hasLetter (setAt sets a) c && hasLetter (setAt sets b) c
-
--- the sets hold letters only
-abbrev pub Lettered : List LetterSet → Type 0
-Lettered sets = (i c : ℕ) → hasLetter (setAt sets i) c ≡ true → isLetter c ≡ true

@@ -8,8 +8,8 @@ ghost use lib.Dec.{ltb};
 ghost use lib.ListN.{length, getD};
 ghost use Rattle.bits.specs.Bits.{hasBit};
 ghost use Rattle.alphabet.specs.Alphabet.{someLetter, isLetter};
-ghost use Rattle.letters.specs.LetterSet.{hasLetter};
-ghost use Rattle.shares.specs.Tables.{Within, isDoubled, NoneDoubled, held, Lettered};
+ghost use Rattle.letters.specs.LetterSet.{hasLetter, Lettered};
+ghost use Rattle.shares.specs.Tables.{Within, isDoubled, NoneDoubled, held};
 
 // The numbers up to `positions` whose sets share a letter with that of a, for every such a, in rows. Each pair is looked at once: what row
 // a gets of the numbers up to a, these get of a. The sets are read here and not in a function of one row, which would copy them all.

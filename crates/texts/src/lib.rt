@@ -7,9 +7,8 @@ ghost use mathlib.Core.Bool.{true, _&&_};
 ghost use Prim.Native.Nat.{ℕ, _+_, _≤_, _<_};
 ghost use lib.ListN.{length, getD};
 ghost use Rattle.alphabet.specs.Alphabet.{isLetter, someLetter, lowestLetter};
-ghost use Rattle.letters.specs.LetterSet.{hasLetter};
+ghost use Rattle.letters.specs.LetterSet.{hasLetter, Lettered};
 ghost use Rattle.nodes.specs.Nodes.{leftOf, rightOf, Step};
-ghost use Rattle.shares.specs.Tables.{Lettered};
 ghost use Rattle.texts.specs.Texts.{Showable, LeadsBack, Behind, Traced, Shown};
 
 // Stands for no text.

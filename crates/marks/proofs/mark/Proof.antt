@@ -20,7 +20,7 @@ states-before-requires c κs =
     (s .pre .0 .few, λ u. let f : Fits w64 (getD (b .follow) u 0) = search needs in row-below b (s .args .more .now) (s .pre .0) u (f .fits))
 
 holders-of-requires : tie.Need-holders-of-requires
-holders-of-requires c κs = c .before .before .before .before .before .before .pre .0 .few
+holders-of-requires c κs = let bounds = c .before .before .before .before .before .before .pre .0 in (bounds .letters, bounds .few)
 
 slice-aggregate-run : tie.Need-slice-aggregate-run
 slice-aggregate-run c = search needs
