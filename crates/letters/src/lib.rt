@@ -16,6 +16,9 @@ pub struct LetterSet {
     pub high: u64,
 }
 
+// All slots of a mask.
+const FULL: u64 = 0xffff_ffff_ffff_ffff;
+
 // The empty set.
 pub fn empty() -> LetterSet
     ensures { λ r. ⌜ ((c : ℕ) → hasLetter r c ≡ false) ⌝ }
@@ -84,9 +87,9 @@ pub fn all() -> LetterSet
     ensures { λ r. ⌜ ((c : ℕ) → hasLetter r c ≡ isLetter c) ⌝ }
 {
     LetterSet {
-        low: 0xffff_ffff_ffff_ffff,
+        low: FULL,
         middle: 0xffff_ffff_7fff_ffff,
-        high: 0xffff_ffff_ffff_ffff,
+        high: FULL,
     }
 }
 
@@ -119,7 +122,7 @@ pub fn is_empty(s: LetterSet) -> bool
 pub fn is_wide(s: LetterSet) -> bool
     ensures { λ r. ⌜ r ≡ isWide s ⌝ }
 {
-    s.high == 0xffff_ffff_ffff_ffff
+    s.high == FULL
 }
 
 // The lowest letter of a set that is not empty.
