@@ -15,7 +15,7 @@ set xlabel "letters of the answer"
 set xrange [0:4300]
 set yrange [0:950]
 set xtics 1024
-plot 12 + 0.2*x ls 2 title "12 + 0.2 for each letter", "marking.dat" with linespoints ls 1 title "measured"
+plot 3 + 0.19*x ls 2 title "3 + 0.19 for each letter", "marking.dat" with linespoints ls 1 title "measured"
 
 set title "Vetting: up to the fourth power of the positions"
 set xlabel "positions of the pattern"
@@ -23,5 +23,5 @@ set xrange [0:62]
 set yrange [0:975]
 set xtics 10
 set ytics 150
-plot 762.6*(x/60)**4 ls 2 title "fourth power, through the last point", "vetting.dat" with linespoints ls 1 title "measured"
+plot 763.9*(x/60)**4 ls 2 title "fourth power, through the last point", "vetting.dat" with linespoints ls 1 title "measured"
 unset multiplot
