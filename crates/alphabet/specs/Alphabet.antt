@@ -1,12 +1,9 @@
 -- The letters. All that depends on which codes are letters stands here.
-use mathlib.Core.Path.{_≡_}
-use mathlib.Core.Bool.{Bool, true, false, not, _&&_, _||_}
+use mathlib.Core.Bool.{Bool, true, false, _&&_, _||_}
 use mathlib.Core.List.{List, [], _∷_}
 use Prim.Native.Nat.{ℕ, zero, suc}
 use lib.Dec.{leb}
-use lib.ListN.{length, getD}
 use Rattle.basics.specs.Choice.{if_then_else_}
-use Rattle.bits.specs.Bits.{hasBit}
 
 -- [Letters] the 191 codes from 32 to 126 and from 160 to 255
 abbrev pub isLetter : ℕ → Bool
@@ -33,13 +30,3 @@ someLetter f = someFrom 256 0 (λ c. isLetter c && f c)
 -- [Letters shown] of a set: its lowest letter
 abbrev pub lowestLetter : (ℕ → Bool) → ℕ
 lowestLetter f = lowestFrom 256 0 (λ c. isLetter c && f c)
-
--- ---- a table by codes
-
-abbrev pub turned : Bool → Bool → Bool
-turned t b = if t then not b else b
-
--- in the entries of the codes that pass p, the members of a mask are turned over
-pub record Turned (p : ℕ → Bool) (mask : ℕ) (table table′ : List ℕ) : Type 0 where
-  pub size : length table′ ≡ length table
-  pub has : (c j : ℕ) → hasBit (getD table′ c 0) j ≡ turned (p c && hasBit mask j) (hasBit (getD table c 0) j)

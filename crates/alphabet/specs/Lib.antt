@@ -1,2 +1,3 @@
 -- The letters.
 pub mod Alphabet
+pub mod Flipped

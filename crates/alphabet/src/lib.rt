@@ -4,7 +4,8 @@ ghost use mathlib.Core.Bool.{_&&_};
 ghost use Prim.Native.Nat.{_<_, _≤_};
 ghost use lib.Dec.{leb};
 ghost use lib.ListN.{length};
-ghost use Rattle.alphabet.specs.Alphabet.{isLetter, allLetters, Turned};
+ghost use Rattle.alphabet.specs.Alphabet.{isLetter, allLetters};
+ghost use Rattle.alphabet.specs.Flipped.{Flipped};
 
 // Is the code a letter: one of the 191 from 32 to 126 and from 160 to 255.
 pub fn is_letter(code: u8) -> bool
@@ -26,19 +27,19 @@ pub fn all_letters(s: &[u8]) -> bool
     good
 }
 
-// In a table by codes, the members of a mask are turned over in the entry of each letter: what was in is out, and what was out is in.
-pub fn turn_letters(table: &mut [u64], mask: u64)
+// In a table by codes, the members of a mask are flipped in the entry of each letter: what was in is out, and what was out is in.
+pub fn flip_letters(table: &mut [u64], mask: u64)
     requires { ⌜ 256 ≤ length (now table) ⌝ }
-    ensures { λ _. ⌜ Turned isLetter mask (now (table .entry)) (now (table .exit)) ⌝ }
+    ensures { λ _. ⌜ Flipped isLetter mask (now (table .entry)) (now (table .exit)) ⌝ }
 {
-    turn(&mut *table, 32, 126, mask);
-    turn(&mut *table, 160, 255, mask);
+    flip(&mut *table, 32, 126, mask);
+    flip(&mut *table, 160, 255, mask);
 }
 
 // The same in the entries from `first` to `last`.
-fn turn(table: &mut [u64], first: usize, last: usize, mask: u64)
+fn flip(table: &mut [u64], first: usize, last: usize, mask: u64)
     requires { ⌜ (first ≤ last) × (last < 256) × (256 ≤ length (now table)) ⌝ }
-    ensures { λ _. ⌜ Turned (λ c. leb first c && leb c last) mask (now (table .entry)) (now (table .exit)) ⌝ }
+    ensures { λ _. ⌜ Flipped (λ c. leb first c && leb c last) mask (now (table .entry)) (now (table .exit)) ⌝ }
 {
     let mut k = first;
     while k <= last {

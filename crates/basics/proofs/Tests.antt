@@ -1,7 +1,7 @@
 -- What a test that passes says of its parts, and cases by a test. Assumes nothing.
 use mathlib.Core.Path.{_≡_, refl, sym, ap, ap₂, _∙_}
 use mathlib.Core.Logic.{_⊎_, inl, inr, ⊎-elim}
-use mathlib.Core.Bool.{Bool, true, false, not, _&&_, _||_, and-true, and-false, or-false, false≢true, true≢false}
+use mathlib.Core.Bool.{Bool, true, false, not, _&&_, _||_, and-true, and-false, and-comm, or-false, false≢true, true≢false}
 use Prim.Native.Nat.{ℕ, zero, suc, _+_, _≤_, _<_, zero-le, suc-le-suc}
 use native.Mathlib.Omega.{arith}
 use lib.Dec.{eqb, ltb, leb}
@@ -77,6 +77,10 @@ by-equal a b y n =
 pub neither-less : (a b : ℕ) → (a < b → ⊥) → (b < a → ⊥) → a ≡ b
 neither-less a b p q = ⊎-elim (λ h. ⊎-elim (λ k. omega arith) (λ k. absurd (p k)) (le-or-lt b a)) (λ h. absurd (q h)) (le-or-lt a b)
 
+-- what is said of two tests together is said of them in either order
+pub both-swap : {A : Type 0} (said : (ℕ → Bool) → A) (f g : ℕ → Bool) → said (λ c. f c && g c) ≡ said (λ c. g c && f c)
+both-swap said f g = ap said (λ i c. and-comm (f c) (g c) i)
+
 -- ---- tests of numbers
 
 pub same-less : (a b c d : ℕ) → (a < b → c < d) → (c < d → a < b) → ltb a b ≡ ltb c d
@@ -84,6 +88,11 @@ same-less a b c d f g = same-test (ltb a b) (ltb c d) (λ e. lt-ltb c d (f (ltb-
 
 pub not-less : (a b : ℕ) → not (ltb a b) ≡ leb b a
 not-less a b = ⊎-elim (λ h. ap not (le-ltb a b h) ∙ sym (le-leb b a h)) (λ h. ap not (lt-ltb a b h) ∙ sym (lt-leb b a h)) (le-or-lt b a)
+
+-- below the next number is up to the number
+pub below-next : (a b c : ℕ) → b ≡ c + 1 → ltb a b ≡ leb a c
+below-next a b c e =
+    ⊎-elim (λ h. lt-ltb a b (omega arith) ∙ sym (le-leb a c h)) (λ h. le-ltb a b (omega arith) ∙ sym (lt-leb a c h)) (le-or-lt a c)
 
 pub equal-added : (k a b : ℕ) → eqb (k + a) (k + b) ≡ eqb a b
 equal-added k a b =

@@ -4,7 +4,7 @@ use letters::LetterSet;
 ghost use Prim.Native.Nat.{ℕ, _<_, _≤_, _+_, _^_};
 ghost use lib.ListN.{length, getD};
 ghost use Rattle.bits.specs.Bits.{hasBit};
-ghost use Rattle.letters.specs.LetterSet.{hasLetter, setAt, Lettered};
+ghost use Rattle.letters.specs.LetterSet.{hasLetter, setAt, OnlyLetters};
 ghost use Rattle.columns.specs.Tables.{Columns, Entered};
 
 // For each position the states that it may follow, from the positions that may follow each state.
@@ -22,9 +22,9 @@ pub fn states_before(follow: &[u64; 61], positions: usize) -> [u64; 61]
 }
 
 // For each letter the positions that hold it, and for any other code none. A position with a wide set is entered for the letters that it
-// lacks, and in the end such positions are turned over in the entry of each letter.
+// lacks, and in the end such positions are flipped in the entry of each letter.
 pub fn holders_of(sets: [LetterSet; 61], positions: usize) -> [u64; 256]
-    requires { ⌜ Lettered sets × (positions ≤ 60) ⌝ }
+    requires { ⌜ OnlyLetters sets × (positions ≤ 60) ⌝ }
     ensures { λ r. ⌜ Columns (λ i c. hasLetter (setAt sets i) c) (positions + 1) r ⌝ }
 {
     let mut table = [0u64; 256];
@@ -40,7 +40,7 @@ pub fn holders_of(sets: [LetterSet; 61], positions: usize) -> [u64; 256]
         i += 1;
     }
     if wide != 0 {
-        alphabet::turn_letters(&mut table, wide);
+        alphabet::flip_letters(&mut table, wide);
     }
     table
 }

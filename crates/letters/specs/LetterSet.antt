@@ -52,5 +52,5 @@ abbrev pub setAt : List LetterSet → ℕ → LetterSet
 setAt sets i = getD sets i record { low = 0; middle = 0; high = 0 }
 
 -- the sets of an array hold letters only
-abbrev pub Lettered : List LetterSet → Type 0
-Lettered sets = (i c : ℕ) → hasLetter (setAt sets i) c ≡ true → isLetter c ≡ true
+abbrev pub OnlyLetters : List LetterSet → Type 0
+OnlyLetters sets = (i c : ℕ) → hasLetter (setAt sets i) c ≡ true → isLetter c ≡ true

@@ -2,7 +2,7 @@
 -- moves, and a chain of moves that of a chain of steps. So a search finds a goal just where `partsTo` says. Assumes nothing.
 use mathlib.Core.Path.{_≡_, refl, sym, ap, ap₂, _∙_, subst}
 use mathlib.Core.Logic.{⊎-elim}
-use mathlib.Core.Bool.{Bool, true, false, _||_, not, true≢false, false≢true, and-comm, or-comm}
+use mathlib.Core.Bool.{Bool, true, false, _||_, not, true≢false, false≢true, or-comm}
 use mathlib.Core.List.{List, [], _∷_, map}
 use Prim.Native.Nat.{ℕ, _≤_, _<_}
 use native.Mathlib.Omega.{arith}
@@ -10,7 +10,7 @@ use borrow.Author.Tests.{eq-eqb, lt-leb, le-leb}
 use lib.Dec.{eqb, leb}
 use lib.ListN.{getD}
 use Rattle.basics.specs.Lists.{Chain}
-use Rattle.basics.proofs.Tests.{or-left, or-right, or-cases}
+use Rattle.basics.proofs.Tests.{both-swap, or-left, or-right, or-cases}
 use Rattle.alphabet.specs.Alphabet.{someLetter, lowestLetter}
 use Rattle.bits.specs.Bits.{hasBit}
 use Rattle.graph.specs.Graph.{Graph, isPosition, next}
@@ -25,10 +25,10 @@ use Rattle.nodes.proofs.Nodes.{pack-swap, Places, sides, left-low, right-low}
 -- ---- letters of two positions in either order
 
 pub shares-swap : (g : Graph) (a b : ℕ) → shares g a b ≡ shares g b a
-shares-swap g a b = ap someLetter (λ i c. and-comm (g .holds a c) (g .holds b c) i)
+shares-swap g a b = both-swap someLetter (g .holds a) (g .holds b)
 
 pub letter-swap : (g : Graph) (a b : ℕ) → letterShown g a b ≡ letterShown g b a
-letter-swap g a b = ap lowestLetter (λ i c. and-comm (g .holds a c) (g .holds b c) i)
+letter-swap g a b = both-swap lowestLetter (g .holds a) (g .holds b)
 
 abbrev pub codeOf : Bool → Pair → ℕ
 codeOf true t = pack (t .left) (t .right)

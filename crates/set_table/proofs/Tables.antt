@@ -21,17 +21,14 @@ unfolding setIn
 none-in n i = zero-none (setIn (replicate n 0) i) (zeros n (3 * i)) (zeros n (3 * i + 1)) (zeros n (3 * i + 2))
 
 -- a store of three words is a store of a set
-abbrev pub stored : List ℕ → ℕ → LetterSet → List ℕ
-stored table i s = set (set (set table (3 * i) (s .low)) (3 * i + 1) (s .middle)) (3 * i + 2) (s .high)
-
-pub writes : (table : List ℕ) (i : ℕ) (s : LetterSet) → i < 61 → length table ≡ tableSize → Writes i s table (stored table i s)
+pub writes : (table : List ℕ) (i : ℕ) (s : LetterSet) → i < 61 → length table ≡ tableSize → Writes i s table (set (set (set table (3 * i) (s .low)) (3 * i + 1) (s .middle)) (3 * i + 2) (s .high))
 unfolding setIn
 writes table i s h size =
     let low = set table (3 * i) (s .low) in
     let middle = set low (3 * i + 1) (s .middle) in
     let l = length-set table (3 * i) (s .low) in
     let m = length-set low (3 * i + 1) (s .middle) in
-    let other : (k : ℕ) → (k ≡ 3 * i → ⊥) → (k ≡ 3 * i + 1 → ⊥) → (k ≡ 3 * i + 2 → ⊥) → getD (stored table i s) k 0 ≡ getD table k 0
+    let other : (k : ℕ) → (k ≡ 3 * i → ⊥) → (k ≡ 3 * i + 1 → ⊥) → (k ≡ 3 * i + 2 → ⊥) → getD (set middle (3 * i + 2) (s .high)) k 0 ≡ getD table k 0
     = λ k a b d. getD-set-other middle (3 * i + 2) k (s .high) 0 d ∙ getD-set-other low (3 * i + 1) k (s .middle) 0 b ∙ getD-set-other table (3 * i) k (s .low) 0 a in
     record {
       size = length-set middle (3 * i + 2) (s .high) ∙ m ∙ l;
@@ -50,19 +47,15 @@ writes table i s h size =
 
 -- ---- the array of the sets, of which those below n are copied and the others are empty
 
-abbrev pub wordsOf : List ℕ → ℕ → LetterSet
-wordsOf table n = record { low = getD table (3 * n) 0; middle = getD table (3 * n + 1) 0; high = getD table (3 * n + 2) 0 }
-
 abbrev pub Copied : List ℕ → List LetterSet → ℕ → Type 0
 Copied table out n = (i c : ℕ) → hasLetter (setAt out i) c ≡ (ltb i n && hasLetter (setIn table i) c)
 
 pub copy-none : (table : List ℕ) (n : ℕ) (none : LetterSet) → ((c : ℕ) → hasLetter none c ≡ false) → Copied table (replicate n none) 0
 copy-none table n none empty i c = all-empty n none empty i c ∙ sym (ap (λ (t : Bool). t && hasLetter (setIn table i) c) (le-ltb i 0 zero-le))
 
-pub copy-one : (table : List ℕ) (out : List LetterSet) (n : ℕ) → n < length out → Copied table out n → Copied table (set out n (wordsOf table n)) (n + 1)
-unfolding setIn
+pub copy-one : (table : List ℕ) (out : List LetterSet) (n : ℕ) → n < length out → Copied table out n → Copied table (set out n (setIn table n)) (n + 1)
 copy-one table out n h copied i c =
-    let s = wordsOf table n in
+    let s = setIn table n in
     let none : LetterSet = record { low = 0; middle = 0; high = 0 } in
     by-equal i n
     (λ z.

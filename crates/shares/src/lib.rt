@@ -8,13 +8,13 @@ ghost use lib.Dec.{ltb};
 ghost use lib.ListN.{length, getD};
 ghost use Rattle.bits.specs.Bits.{hasBit};
 ghost use Rattle.alphabet.specs.Alphabet.{someLetter, isLetter};
-ghost use Rattle.letters.specs.LetterSet.{hasLetter, Lettered};
+ghost use Rattle.letters.specs.LetterSet.{hasLetter, OnlyLetters};
 ghost use Rattle.shares.specs.Tables.{Within, isDoubled, NoneDoubled, held};
 
 // The numbers up to `positions` whose sets share a letter with that of a, for every such a, in rows. Each pair is looked at once: what row
 // a gets of the numbers up to a, these get of a. The sets are read here and not in a function of one row, which would copy them all.
 pub fn share_rows(sets: [LetterSet; 61], rows: &mut [u64; 61], positions: usize)
-    requires { ⌜ Lettered sets × (length (now rows) ≡ 61) × (positions ≤ 60) ⌝ }
+    requires { ⌜ OnlyLetters sets × (length (now rows) ≡ 61) × (positions ≤ 60) ⌝ }
     ensures { λ _. ⌜ ((a b : ℕ) → a ≤ positions → b ≤ positions → hasBit (getD (now (rows .exit)) a 0) b ≡ someLetter (held sets a b)) × (length (now (rows .exit)) ≡ 61) ⌝ }
 {
     let mut a: usize = 0;

@@ -7,7 +7,7 @@ ghost use mathlib.Core.Bool.{true, _&&_};
 ghost use Prim.Native.Nat.{ℕ, _+_, _≤_, _<_};
 ghost use lib.ListN.{length, getD};
 ghost use Rattle.alphabet.specs.Alphabet.{isLetter, someLetter, lowestLetter};
-ghost use Rattle.letters.specs.LetterSet.{hasLetter, Lettered};
+ghost use Rattle.letters.specs.LetterSet.{hasLetter, OnlyLetters};
 ghost use Rattle.nodes.specs.Nodes.{leftOf, rightOf, Step};
 ghost use Rattle.texts.specs.Texts.{Showable, LeadsBack, Behind, Traced, Shown};
 
@@ -26,7 +26,7 @@ pub fn show<'a>(
     start: usize,
     base: usize,
 ) -> usize
-    requires { ⌜ (4096 ≤ length (now scratch)) × (start ≤ 60) × (base + 1890 ≤ length (now evidence)) × Lettered sets × ((x y : ℕ) → Step (now follow) (now doubles) (now shares) x y → Showable sets y) ⌝ }
+    requires { ⌜ (4096 ≤ length (now scratch)) × (start ≤ 60) × (base + 1890 ≤ length (now evidence)) × OnlyLetters sets × ((x y : ℕ) → Step (now follow) (now doubles) (now shares) x y → Showable sets y) ⌝ }
     ensures { λ r. ⌜ Shown sets (now (follow .entry)) (now (doubles .entry)) (now (shares .entry)) (now (evidence .entry)) (now (evidence .exit)) goal start base r ⌝ }
 {
     let w = search::to_goal(follow, doubles, shares, &mut *scratch, goal, start);
@@ -63,7 +63,7 @@ fn trace(
     base: usize,
     n: usize,
 )
-    requires { ⌜ Lettered sets × LeadsBack (now scratch) (i + 1) × Behind (now scratch) i n × ((j : ℕ) → 0 < j → j ≤ i → Showable sets (getD (now scratch) j 0)) × (base + n ≤ length (now evidence)) ⌝ }
+    requires { ⌜ OnlyLetters sets × LeadsBack (now scratch) (i + 1) × Behind (now scratch) i n × ((j : ℕ) → 0 < j → j ≤ i → Showable sets (getD (now scratch) j 0)) × (base + n ≤ length (now evidence)) ⌝ }
     ensures { λ _. ⌜ Traced sets (now (scratch .entry)) (now (evidence .entry)) (now (evidence .exit)) i base n ⌝ }
 {
     let mut at = i;

@@ -1,4 +1,4 @@
--- The first i rows are entered, those of wide sets by what they lack, and in the end these are turned over. Assumes nothing.
+-- The first i rows are entered, those of wide sets by what they lack, and in the end these are flipped. Assumes nothing.
 use mathlib.Core.Path.{_≡_, refl, sym, ap, _∙_, subst}
 use mathlib.Core.Logic.{⊎-elim}
 use Prim.Native.Nat.{ℕ, _+_, _-_, _≤_}
@@ -11,18 +11,18 @@ use Rattle.letters.specs.LetterSet.{hasLetter, setAt}
 use Rattle.letters.specs.declared.LetterSet.{LetterSet}
 use Rattle.columns.specs.Tables.{Columns}
 use Rattle.columns.proofs.Columns.{columns-start}
-use Rattle.columns.proofs.Wide.{rows, Chosen, chosen-wide, chosen-own, WideBelow, wide-on, rows-on, all-turned, none-turned}
+use Rattle.columns.proofs.Wide.{isEntered, Chosen, chosen-wide, chosen-own, WideBelow, wide-on, rows-on, all-flipped, none-flipped}
 use Rattle.columns.proofs.holders_of.Statement.{statement}
 use Rattle.columns.proofs.holders_of.Tie as tie
 
 abbrev Inv-loop : tie.InvT-loop
-Inv-loop positions sets table₀ wide₀ i₀ table wide i = (i ≤ positions + 1) × (length table ≡ 256) × WideBelow i wide × Columns (rows sets wide) i table
+Inv-loop positions sets table₀ wide₀ i₀ table wide i = (i ≤ positions + 1) × (length table ≡ 256) × WideBelow i wide × Columns (isEntered sets wide) i table
 
 abbrev μ-loop : tie.MeasureT-loop
 μ-loop positions sets table₀ wide₀ i₀ table wide i = positions + 1 - i
 
 loop-holds : tie.Need-loop-holds Inv-loop μ-loop
-loop-holds c = (omega arith, refl, λ j h. has-none j, columns-start (rows (c .args .t1) 0) 256)
+loop-holds c = (omega arith, refl, λ j h. has-none j, columns-start (isEntered (c .args .t1) 0) 256)
 
 mul-s : tie.Need-mul-s Inv-loop μ-loop
 mul-s c = omega arith
@@ -76,20 +76,20 @@ loop-again c =
       rows-on sets (at .i) (at .wide) (now .s) (now .wide) (at .inv .2) w (at .table) (e .last .0) (at .inv .3) (e .ensures),
     )
 
-slice-aggregate-turn-letters : tie.Need-slice-aggregate-turn-letters Inv-loop μ-loop
-slice-aggregate-turn-letters c = sym (c .before .before .before .loop .inv .1)
+slice-aggregate-flip-letters : tie.Need-slice-aggregate-flip-letters Inv-loop μ-loop
+slice-aggregate-flip-letters c = sym (c .before .before .before .loop .inv .1)
 
-turn-letters-requires : tie.Need-turn-letters-requires Inv-loop μ-loop
-turn-letters-requires c κs = omega (arith, c .before .before .before .loop .inv .1)
+flip-letters-requires : tie.Need-flip-letters-requires Inv-loop μ-loop
+flip-letters-requires c κs = omega (arith, c .before .before .before .loop .inv .1)
 
 returns : tie.Need-returns Inv-loop μ-loop
 returns c =
     let start = c .before .before .before .before .before .before in
     let at = c .before .before .before .before .before .loop in
-    let turn = c .before .turn-letters in
+    let flip = c .before .flip-letters in
     let z : at .i ≡ start .args .positions + 1 = omega arith in
-    subst (λ (n : ℕ). Columns (λ j b. hasLetter (setAt (start .args .t1) j) b) n (turn .last .0)) z
-    (all-turned (start .args .t1) (at .i) (at .wide) (at .table) (at .inv .3) (start .pre .0) (at .inv .2) (turn .last .0) (turn .ensures))
+    subst (λ (n : ℕ). Columns (λ j b. hasLetter (setAt (start .args .t1) j) b) n (flip .last .0)) z
+    (all-flipped (start .args .t1) (at .i) (at .wide) (at .table) (at .inv .3) (start .pre .0) (at .inv .2) (flip .last .0) (flip .ensures))
 
 returns-2 : tie.Need-returns-2 Inv-loop μ-loop
 returns-2 c =
@@ -97,7 +97,7 @@ returns-2 c =
     let at = c .before .before .loop in
     let z : at .i ≡ start .args .positions + 1 = omega arith in
     subst (λ (n : ℕ). Columns (λ j b. hasLetter (setAt (start .args .t1) j) b) n (at .table)) z
-    (none-turned (start .args .t1) (at .i) (at .wide) (at .table) (at .inv .3) (c .if2 .left))
+    (none-flipped (start .args .t1) (at .i) (at .wide) (at .table) (at .inv .3) (c .if2 .left))
 
 pub holders-of-spec : {M : Type 1} → statement M
 holders-of-spec =
@@ -116,7 +116,7 @@ holders-of-spec =
     add-i
     loop-less
     loop-again
-    slice-aggregate-turn-letters
-    turn-letters-requires
+    slice-aggregate-flip-letters
+    flip-letters-requires
     returns
     returns-2)

@@ -1,13 +1,13 @@
 -- A word holds those of its slots whose codes lie in the range: one law for the three words. Of these codes the letters are
 -- left. Assumes nothing.
-use mathlib.Core.Path.{_≡_, sym, ap, ap₂, _∙_}
+use mathlib.Core.Path.{_≡_, refl, sym, ap, ap₂, _∙_}
 use mathlib.Core.Bool.{Bool, not, _&&_}
 use Prim.Native.Nat.{ℕ, _+_, _<_}
 use native.Mathlib.Omega.{arith}
 use lib.Dec.{ltb, leb}
 use borrow.Author.Needs.{needs}
-use borrow.Author.Tests.{ltb-true, leb-true, lt-ltb, le-leb}
-use Rattle.basics.proofs.Tests.{not-less, same-test}
+use borrow.Author.Tests.{lt-ltb}
+use Rattle.basics.proofs.Tests.{not-less, below-next}
 use Rattle.bits.specs.Bits.{hasBit}
 use Rattle.letters.specs.LetterSet.{codeAt, hasSlot, hasLetter}
 use Rattle.letters.specs.declared.LetterSet.{LetterSet}
@@ -16,16 +16,13 @@ use Rattle.letters.proofs.Sets.{by-words}
 use Rattle.ranges.proofs.range.Statement.{statement}
 use Rattle.ranges.proofs.range.Tie as tie
 
-up-to : (k b : ℕ) → ltb k (b + 1) ≡ leb k b
-up-to k b = same-test (ltb k (b + 1)) (leb k b) (λ t. let h = ltb-true k (b + 1) t in le-leb k b (omega arith)) (λ t. let h = leb-true k b t in lt-ltb k (b + 1) (omega arith))
-
 module _ (a b from to : ℕ) (first : (i : ℕ) → i < 192 → ltb i from ≡ ltb (codeAt i) a) (last : (i : ℕ) → i < 192 → ltb i to ≡ ltb (codeAt i) (b + 1)) where
   inside : (base w : ℕ) → ((j : ℕ) → hasBit w j ≡ (ltb j 64 && (leb from (base + j) && ltb (base + j) to))) → (i : ℕ) → i < 64 → base + i < 192
       → hasBit w i ≡ (leb a (codeAt (base + i)) && leb (codeAt (base + i)) b)
   inside base w word i h l =
       let k = codeAt (base + i) in
       word i ∙ ap (λ (t : Bool). t && (leb from (base + i) && ltb (base + i) to)) (lt-ltb i 64 h)
-      ∙ ap₂ _&&_ (sym (not-less (base + i) from) ∙ ap not (first (base + i) l) ∙ not-less k a) (last (base + i) l ∙ up-to k b)
+      ∙ ap₂ _&&_ (sym (not-less (base + i) from) ∙ ap not (first (base + i) l) ∙ not-less k a) (last (base + i) l ∙ below-next k (b + 1) b refl)
 
 slots-below-requires : tie.Need-slots-below-requires
 slots-below-requires c κs = search needs

@@ -5,12 +5,10 @@ use Prim.Native.Nat.{_+_, _-_, _≤_}
 use native.Mathlib.Omega.{arith}
 use lib.ListN.{length, length-set}
 use borrow.Author.Needs.{needs}
-use borrow.Author.Tests.{ltb-true, leb-true, lt-ltb, le-leb}
-use lib.Dec.{ltb, leb}
-use Rattle.basics.proofs.Tests.{same-test}
+use Rattle.basics.proofs.Tests.{below-next}
 use Rattle.letters.specs.LetterSet.{hasLetter}
 use Rattle.set_table.specs.Table.{setIn}
-use Rattle.set_table.proofs.Tables.{wordsOf, Copied, copy-none, copy-one}
+use Rattle.set_table.proofs.Tables.{Copied, copy-none, copy-one}
 use Rattle.set_table.proofs.sets.Statement.{statement}
 use Rattle.set_table.proofs.sets.Tie as tie
 
@@ -72,11 +70,12 @@ loop-less : tie.Need-loop-less Inv-loop μ-loop
 loop-less c = omega arith
 
 loop-again : tie.Need-loop-again Inv-loop μ-loop
+unfolding setIn
 loop-again c =
     let table = c .before .before .before .before .before .before .before .args .table .now in
     let at = c .before .before .before .before .loop in (
       omega arith,
-      length-set (at .out) (at .i) (wordsOf table (at .i)) ∙ at .inv .1,
+      length-set (at .out) (at .i) (setIn table (at .i)) ∙ at .inv .1,
       copy-one table (at .out) (at .i) (omega (arith, at .inv .1, c .before .before .before .before .before .before .before .pre)) (at .inv .2),
     )
 
@@ -88,7 +87,7 @@ returns c =
     let at = c .before .loop in
     at .inv .2 i k
     ∙ ap (λ (t : Bool). t && hasLetter (setIn (start .args .table .now) i) k)
-    (same-test (ltb i (at .i)) (leb i n) (λ t. let h = ltb-true i (at .i) t in le-leb i n (omega arith)) (λ t. let h = leb-true i n t in lt-ltb i (at .i) (omega arith)))
+    (below-next i (at .i) n (omega arith))
 
 pub sets-spec : {M : Type 1} → statement M
 sets-spec =

@@ -1,13 +1,13 @@
 -- The rows passed have the numbers passed that share a letter with theirs, and so has the word of the row at hand. Assumes nothing.
 use mathlib.Core.Path.{_≡_, sym, ap, ap₂, _∙_}
-use mathlib.Core.Bool.{Bool, _&&_, _||_, and-comm}
+use mathlib.Core.Bool.{Bool, _&&_, _||_}
 use mathlib.Core.List.{List}
 use Prim.Native.Nat.{ℕ, _+_, _-_, _^_, _≤_, _<_, zero-le}
 use native.Mathlib.Omega.{arith}
 use borrow.Author.Tests.{lt-ltb, le-ltb}
 use lib.Dec.{eqb, ltb}
 use lib.ListN.{getD, length, length-set}
-use Rattle.basics.proofs.Tests.{one-further}
+use Rattle.basics.proofs.Tests.{both-swap, one-further}
 use Rattle.bits.specs.Bits.{hasBit}
 use Rattle.bits.proofs.Laws.{has-none, lt-of-high}
 use Rattle.alphabet.specs.Alphabet.{someLetter}
@@ -23,7 +23,7 @@ abbrev shared : List LetterSet → ℕ → ℕ → Bool
 shared sets a b = someLetter (held sets a b)
 
 swap : (sets : List LetterSet) (a b : ℕ) → shared sets a b ≡ shared sets b a
-swap sets a b = ap someLetter (λ i c. and-comm (hasLetter (setAt sets a) c) (hasLetter (setAt sets b) c) i)
+swap sets a b = both-swap someLetter (hasLetter (setAt sets a)) (hasLetter (setAt sets b))
 
 abbrev Inv-loop2 : tie.InvT-loop2
 Inv-loop2 rows positions sets a s word₀ b₀ word b = (b ≤ a + 1) × (word < 2 ^ 64) × ((j : ℕ) → hasBit word j ≡ (ltb j b && shared sets a j))

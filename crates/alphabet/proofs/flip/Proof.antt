@@ -1,27 +1,26 @@
--- The loop's invariant: the entries from the first on that are below k are turned. The measure is how many are left. Assumes nothing.
+-- The loop's invariant: the entries from the first on that are below k are flipped. The measure is how many are left. Assumes nothing.
 use mathlib.Core.Path.{ap, ap₂, _∙_}
 use mathlib.Core.Bool.{Bool, _&&_, _||_}
 use Prim.Native.Nat.{_+_, _-_, _≤_}
 use native.Mathlib.Omega.{arith}
-use lib.Dec.{ltb, leb}
+use lib.Dec.{leb}
 use lib.ListN.{getD}
 use borrow.Author.Needs.{needs}
-use borrow.Author.Tests.{ltb-true, leb-true, lt-ltb, le-leb}
-use Rattle.basics.proofs.Tests.{same-test}
+use Rattle.basics.proofs.Tests.{below-next}
 use Rattle.bits.specs.Bits.{hasBit}
-use Rattle.alphabet.specs.Alphabet.{Turned}
-use Rattle.alphabet.proofs.Turning.{between, turned-bits, turn-none, turn-one, turn-same}
-use Rattle.alphabet.proofs.turn.Statement.{statement}
-use Rattle.alphabet.proofs.turn.Tie as tie
+use Rattle.alphabet.specs.Flipped.{Flipped}
+use Rattle.alphabet.proofs.Flipping.{between, flipped-bits, flip-none, flip-one, flip-same}
+use Rattle.alphabet.proofs.flip.Statement.{statement}
+use Rattle.alphabet.proofs.flip.Tie as tie
 
 abbrev Inv-loop : tie.InvT-loop
-Inv-loop table₀ first last mask k₀ table k = (first ≤ k) × (k ≤ last + 1) × Turned (between first k) mask table₀ table
+Inv-loop table₀ first last mask k₀ table k = (first ≤ k) × (k ≤ last + 1) × Flipped (between first k) mask table₀ table
 
 abbrev μ-loop : tie.MeasureT-loop
 μ-loop table₀ first last mask k₀ table k = last + 1 - k
 
 loop-holds : tie.Need-loop-holds Inv-loop μ-loop
-loop-holds c = let a = c .before .args in (omega arith, omega (arith, c .before .pre), turn-none (a .first) (a .mask) (a .table .now))
+loop-holds c = let a = c .before .args in (omega arith, omega (arith, c .before .pre), flip-none (a .first) (a .mask) (a .table .now))
 
 mul-old : tie.Need-mul-old Inv-loop μ-loop
 mul-old c = omega (arith, c .before .before .before .pre)
@@ -57,8 +56,8 @@ loop-again c =
     let old = getD (at .table) (at .k) 0 in (
       omega arith,
       omega arith,
-      turn-one (a .first) (at .k) (a .mask) (c .union .result) (a .table .now) (at .table) (at .inv .0) (omega (arith, c .before .before .before .before .before .before .before .pre, at .inv .2 .size)) (at .inv .2)
-          (λ j. c .union .ensures j ∙ ap₂ _||_ (c .before .before .difference .ensures j) (c .before .difference2 .ensures j) ∙ turned-bits (hasBit (a .mask) j) (hasBit old j)),
+      flip-one (a .first) (at .k) (a .mask) (c .union .result) (a .table .now) (at .table) (at .inv .0) (omega (arith, c .before .before .before .before .before .before .before .pre, at .inv .2 .size)) (at .inv .2)
+          (λ j. c .union .ensures j ∙ ap₂ _||_ (c .before .before .difference .ensures j) (c .before .difference2 .ensures j) ∙ flipped-bits (hasBit (a .mask) j) (hasBit old j)),
     )
 
 same-length : tie.Need-same-length Inv-loop μ-loop
@@ -68,14 +67,14 @@ returns : tie.Need-returns Inv-loop μ-loop
 returns c =
     let a = c .before .before .before .args in
     let at = c .before .loop in
-    turn-same (between (a .first) (at .k)) (λ x. leb (a .first) x && leb x (a .last)) (a .mask) (a .table .now) (at .table)
+    flip-same (between (a .first) (at .k)) (λ x. leb (a .first) x && leb x (a .last)) (a .mask) (a .table .now) (at .table)
     (λ x.
     ap (λ (t : Bool). leb (a .first) x && t)
-    (same-test (ltb x (at .k)) (leb x (a .last)) (λ t. let h = ltb-true x (at .k) t in le-leb x (a .last) (omega arith)) (λ t. let h = leb-true x (a .last) t in lt-ltb x (at .k) (omega arith))))
+    (below-next x (at .k) (a .last) (omega arith)))
     (at .inv .2)
 
-pub turn-spec : {M : Type 1} → statement M
-turn-spec =
+pub flip-spec : {M : Type 1} → statement M
+flip-spec =
     tie.close
     (tie.spec
     Inv-loop
