@@ -42,20 +42,20 @@ some-from (suc n) k f c l m h =
     let below = some-from n (suc k) f c in
     by-equal k c (λ z. or-left (f k) (someFrom n (suc k) f) (ap f z ∙ h)) (λ z. or-right (f k) (someFrom n (suc k) f) (below (omega arith) (omega arith) h))
 
--- ---- the two halves
+-- ---- the codes of two ranges, such as those of the letters
 
-pub low-letter : (c : ℕ) → 32 ≤ c → c ≤ 126 → isLetter c ≡ true
-low-letter c l h = or-left (leb 32 c && leb c 126) (leb 160 c && leb c 255) (and-of (leb 32 c) (leb c 126) (le-leb 32 c l) (le-leb c 126 h))
+pub in-first : (a b p q c : ℕ) → a ≤ c → c ≤ b → ((leb a c && leb c b) || (leb p c && leb c q)) ≡ true
+in-first a b p q c l h = or-left (leb a c && leb c b) (leb p c && leb c q) (and-of (leb a c) (leb c b) (le-leb a c l) (le-leb c b h))
 
-pub high-letter : (c : ℕ) → 160 ≤ c → c ≤ 255 → isLetter c ≡ true
-high-letter c l h = or-right (leb 32 c && leb c 126) (leb 160 c && leb c 255) (and-of (leb 160 c) (leb c 255) (le-leb 160 c l) (le-leb c 255 h))
+pub in-second : (a b p q c : ℕ) → p ≤ c → c ≤ q → ((leb a c && leb c b) || (leb p c && leb c q)) ≡ true
+in-second a b p q c l h = or-right (leb a c && leb c b) (leb p c && leb c q) (and-of (leb p c) (leb c q) (le-leb p c l) (le-leb c q h))
 
--- cases by the half of a letter
-pub by-letter : (P : Type 0) (c : ℕ) → isLetter c ≡ true → (32 ≤ c → c ≤ 126 → P) → (160 ≤ c → c ≤ 255 → P) → P
-by-letter P c i f g =
-    ⊎-elim (λ h. let p = and-parts (leb 32 c) (leb c 126) h in f (leb-true 32 c (p .0)) (leb-true c 126 (p .1)))
-    (λ h. let p = and-parts (leb 160 c) (leb c 255) h in g (leb-true 160 c (p .0)) (leb-true c 255 (p .1)))
-    (or-cases (leb 32 c && leb c 126) (leb 160 c && leb c 255) i)
+-- cases by the range of a code
+pub by-ranges : (P : Type 0) (a b p q c : ℕ) → ((leb a c && leb c b) || (leb p c && leb c q)) ≡ true → (a ≤ c → c ≤ b → P) → (p ≤ c → c ≤ q → P) → P
+by-ranges P a b p q c i f g =
+    ⊎-elim (λ h. let r = and-parts (leb a c) (leb c b) h in f (leb-true a c (r .0)) (leb-true c b (r .1)))
+    (λ h. let r = and-parts (leb p c) (leb c q) h in g (leb-true p c (r .0)) (leb-true c q (r .1)))
+    (or-cases (leb a c && leb c b) (leb p c && leb c q) i)
 
 -- ---- the lowest letter
 
@@ -70,7 +70,7 @@ lowest-none f h c i l = sym (ap (λ (t : Bool). t && f c) i) ∙ lowest-from 256
 -- a set that holds a letter has one
 pub letter-some : (f : ℕ → Bool) (c : ℕ) → isLetter c ≡ true → f c ≡ true → someLetter f ≡ true
 letter-some f c i h =
-    let low : c < 256 = by-letter (c < 256) c i (λ a b. omega arith) (λ a b. omega arith) in
+    let low : c < 256 = by-ranges (c < 256) 32 126 160 255 c i (λ a b. omega arith) (λ a b. omega arith) in
     some-from 256 0 (λ c. isLetter c && f c) c (omega arith) low (and-of (isLetter c) (f c) i h)
 
 -- the letters of a text from a place on

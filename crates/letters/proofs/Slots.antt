@@ -4,12 +4,12 @@ use mathlib.Core.Logic.{⊎-elim}
 use mathlib.Core.Bool.{Bool, true, false, not, _&&_}
 use Prim.Native.Nat.{ℕ, _+_, _-_, _≤_, _<_}
 use native.Mathlib.Omega.{arith}
-use lib.Dec.{eqb, leb, ltb}
-use borrow.Author.Tests.{leb-true, ltb-true, eqb-true, eqb-false, lt-ltb, le-ltb, le-leb, ne-eqb, eq-eqb, not-true}
+use lib.Dec.{eqb, ltb}
+use borrow.Author.Tests.{eqb-true, eqb-false, lt-ltb, le-ltb, ne-eqb, eq-eqb, not-true}
 use Rattle.basics.specs.Choice.{if_then_else_}
-use Rattle.basics.proofs.Tests.{le-or-lt, and-parts, and-of, and-when, or-cases, or-left, or-right, same-test, by-test, if-yes, if-no}
+use Rattle.basics.proofs.Tests.{le-or-lt, and-when, same-test, by-test, if-yes, if-no}
 use Rattle.alphabet.specs.Alphabet.{isLetter}
-use Rattle.alphabet.proofs.Alphabet.{low-letter, high-letter, by-letter}
+use Rattle.alphabet.proofs.Alphabet.{in-first, in-second, by-ranges}
 use Rattle.letters.specs.LetterSet.{hasSlot, slotOf, codeAt}
 
 -- ---- the two halves
@@ -32,20 +32,17 @@ code-high i h = if-no (32 + i) (64 + i) (ltb i 96) (le-ltb i 96 h)
 
 pub has-low : (c : ℕ) → 32 ≤ c → c < 128 → hasSlot c ≡ true
 unfolding hasSlot
-has-low c l h = or-left (leb 32 c && ltb c 128) (leb 160 c && ltb c 256) (and-of (leb 32 c) (ltb c 128) (le-leb 32 c l) (lt-ltb c 128 h))
+has-low c l h = in-first 32 127 160 255 c l (omega arith)
 
 pub has-high : (c : ℕ) → 160 ≤ c → c < 256 → hasSlot c ≡ true
 unfolding hasSlot
-has-high c l h = or-right (leb 32 c && ltb c 128) (leb 160 c && ltb c 256) (and-of (leb 160 c) (ltb c 256) (le-leb 160 c l) (lt-ltb c 256 h))
+has-high c l h = in-second 32 127 160 255 c l (omega arith)
 
 -- cases by the half of a code that has a slot, and by that of a slot
 pub by-half : (P : Type 0) (c : ℕ) → hasSlot c ≡ true → (32 ≤ c → c < 128 → slotOf c ≡ c - 32 → P) → (160 ≤ c → c < 256 → slotOf c ≡ c - 64 → P) → P
 unfolding hasSlot
 by-half P c h f g =
-    ⊎-elim
-    (λ a. let p = and-parts (leb 32 c) (ltb c 128) a in let m = ltb-true c 128 (p .1) in f (leb-true 32 c (p .0)) m (slot-low c m))
-    (λ a. let p = and-parts (leb 160 c) (ltb c 256) a in let l = leb-true 160 c (p .0) in g l (ltb-true c 256 (p .1)) (slot-high c (omega arith)))
-    (or-cases (leb 32 c && ltb c 128) (leb 160 c && ltb c 256) h)
+    by-ranges P 32 127 160 255 c h (λ l m. f l (omega arith) (slot-low c (omega arith))) (λ l m. g l (omega arith) (slot-high c (omega arith)))
 
 pub by-slot : (P : Type 0) (i : ℕ) → (i < 96 → codeAt i ≡ 32 + i → P) → (96 ≤ i → codeAt i ≡ 64 + i → P) → P
 by-slot P i f g = ⊎-elim (λ h. g h (code-high i h)) (λ h. f h (code-low i h)) (le-or-lt 96 i)
@@ -88,7 +85,7 @@ code-equal i j l m =
 -- ---- letters have slots, and only slot 95 is no letter's
 
 pub letter-slot : (c : ℕ) → isLetter c ≡ true → hasSlot c ≡ true
-letter-slot c h = by-letter (hasSlot c ≡ true) c h (λ a b. has-low c a (omega arith)) (λ a b. has-high c a (omega arith))
+letter-slot c h = by-ranges (hasSlot c ≡ true) 32 126 160 255 c h (λ a b. has-low c a (omega arith)) (λ a b. has-high c a (omega arith))
 
 pub letter-has : (c : ℕ) (t : Bool) → (isLetter c && (hasSlot c && t)) ≡ (isLetter c && t)
 letter-has c t = and-when (isLetter c) (hasSlot c && t) t (λ h. ap (λ (u : Bool). u && t) (letter-slot c h))
@@ -97,9 +94,9 @@ pub letter-at : (i : ℕ) → i < 192 → isLetter (codeAt i) ≡ not (eqb 95 i)
 letter-at i l = same-test (isLetter (codeAt i)) (not (eqb 95 i)) (λ t. ap not (ne-eqb 95 i (λ e. other e t))) (λ t. letter (eqb-false 95 i (not-true (eqb 95 i) t)))
   where
     other : 95 ≡ i → isLetter (codeAt i) ≡ true → ⊥
-    other e t = let k = code-low i (omega arith) in by-letter ⊥ (codeAt i) t (λ a b. omega arith) (λ a b. omega arith)
+    other e t = let k = code-low i (omega arith) in by-ranges ⊥ 32 126 160 255 (codeAt i) t (λ a b. omega arith) (λ a b. omega arith)
 
     letter : (95 ≡ i → ⊥) → isLetter (codeAt i) ≡ true
     letter d =
-        by-slot (isLetter (codeAt i) ≡ true) i (λ h e. low-letter (codeAt i) (omega arith) (omega arith))
-        (λ h e. high-letter (codeAt i) (omega arith) (omega arith))
+        by-slot (isLetter (codeAt i) ≡ true) i (λ h e. in-first 32 126 160 255 (codeAt i) (omega arith) (omega arith))
+        (λ h e. in-second 32 126 160 255 (codeAt i) (omega arith) (omega arith))

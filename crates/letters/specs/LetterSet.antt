@@ -13,7 +13,7 @@ use Rattle.letters.specs.declared.LetterSet.{LetterSet}
 
 -- has the code c a slot in a set, and which: 32 to 127 have 0 to 95, and 160 to 255 have 96 to 191
 unfoldable pub hasSlot : ℕ → Bool
-hasSlot c = (leb 32 c && ltb c 128) || (leb 160 c && ltb c 256)
+hasSlot c = (leb 32 c && leb c 127) || (leb 160 c && leb c 255)
 
 unfoldable pub slotOf : ℕ → ℕ
 slotOf c = if ltb c 128 then c - 32 else c - 64
