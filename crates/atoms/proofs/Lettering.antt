@@ -1,29 +1,33 @@
 -- Lettered atoms. The letters are read up to the credit, and so are the rules: by the first byte, what they read is
 -- `withCredit` of the items from the place reached on, or broken. The credit is read once, for all of them. (By code:
--- 46 is `.`, 61 `=`, 91 `[`, 92 `\`, 94 `^`; 48 to 57 are the digits.) Assumes nothing.
+-- 45 is `-`, 46 `.`, 61 `=`, 91 `[`, 92 `\`, 94 `^`; 48 to 57 are the digits.) Assumes nothing.
 use mathlib.Core.Path.{_≡_, refl, sym, ap, ap₂, _∙_, subst}
 use mathlib.Core.Bool.{Bool, true, false, _&&_, _||_, not, and-self-left, or-false, false≢true}
 use mathlib.Core.List.{List, [], _∷_}
 use Prim.Native.Nat.{ℕ, zero, suc, _+_, _-_, _≤_, _<_}
 use native.Mathlib.Omega.{arith}
 use lib.Dec.{eqb, leb}
+use lib.IntN.{ℤ, pos, negℤ}
 use lib.ListN.{length, getD, drop, drop-of-length-le}
 use lib.Seq.{drop-drop}
 use borrow.Author.Tests.{eq-eqb, ne-eqb, leb-true, le-ltb, not-true, not-false}
 use Rattle.basics.specs.Choice.{if_then_else_}
 use Rattle.basics.specs.Bytes.{isIn}
-use Rattle.basics.proofs.Tests.{by-test, and-parts}
+use Rattle.basics.proofs.Tests.{by-test, if-yes, and-parts}
 use Rattle.alphabet.specs.Alphabet.{isLetter}
 use Rattle.letters.specs.LetterSet.{hasLetter, Some}
 use Rattle.letters.specs.declared.LetterSet.{LetterSet}
 use Rattle.letters.proofs.Sets.{none-same}
-use Rattle.pattern.specs.Parts.{Item, item, atom, holds, letter}
-use Rattle.pattern.specs.Grammar.{Read, read, broken, peek, special, withCredit, readClass, readLetter}
+use Rattle.pattern.specs.Parts.{item, atom, holds, letter}
+use Rattle.graph.specs.Built.{lowered}
+use Rattle.graph.proofs.Best.{lowered-on, lowered-off}
+use Rattle.pattern.specs.Grammar.{Read, read, broken, peek, special, Credit, credit, noCredit, creditDigit, readCredit, withCredit, readClass, readLetter}
 use Rattle.classes.specs.declared.Named.{Named}
+use Rattle.atoms.specs.declared.CreditRead.{CreditRead}
 use Rattle.atoms.specs.declared.Lettered.{Lettered}
-use Rattle.atoms.specs.Atoms.{ReadsAtom}
+use Rattle.atoms.specs.Atoms.{creditTo, ReadsCredit, ReadsAtom}
 use Rattle.classes.specs.Classes.{Decides, UpToCredit, IsNamed, ReadsNamed}
-use Rattle.places.proofs.Places.{byte-within, drop-first, second-byte}
+use Rattle.places.proofs.Places.{byte-within, drop-first, later-byte}
 use Rattle.classes.proofs.Members.{decides-yes, decides-no}
 
 -- ---- the credit
@@ -33,67 +37,116 @@ not-atom s from R r e h =
     let never : r .good ≡ true → ⊥ = λ g. false≢true (sym e ∙ g) in
     record { same = e ∙ sym h; on = λ g. absurd (never g); within = λ g. absurd (never g); rest = λ g. absurd (never g); has = λ g. absurd (never g) }
 
-pub digit-range : (d : ℕ) → (leb 49 d && leb d 57) ≡ true → (49 ≤ d) × (d ≤ 57)
+pub digit-range : (d : ℕ) → creditDigit d ≡ true → (49 ≤ d) × (d ≤ 57)
 digit-range d h = let p = and-parts (leb 49 d) (leb d 57) h in (leb-true 49 d (p .0), leb-true d 57 (p .1))
 
--- the rule, by its first test
-abbrev creditOf : Bool → Bool → List Item → ℕ → List ℕ → List ℕ → Read
-creditOf t o is d s u =
-    if t then (if leb 49 d && leb d 57 then read (letter (atom o is (d - 48))) u else broken)
-    else read (letter (atom o is 0)) s
+-- the credit of the rules, from a place on, by its tests
+module _ (s : List ℕ) (at : ℕ) where
+  abbrev creditBy : Bool → Bool → Bool → ℕ → ℕ → Credit
+  creditBy x y z d e =
+      if not x then credit (pos 0) (drop at s)
+      else if y then credit (pos (d - 48)) (drop (at + 2) s)
+      else if z then credit (negℤ (pos (e - 48))) (drop (at + 3) s)
+      else noCredit
 
-module _ (s : List ℕ) (n : Named) (from : ℕ) (R : Read) (w : ReadsNamed s from R n) (hollow : Bool) (none : (hollow ≡ true → (c : ℕ) → hasLetter (n .set) c ≡ false) × (hollow ≡ false → Some (n .set))) where
-  -- the letters and a credit, where the rules read those letters with that credit
-  reads-atom : (at credit : ℕ) → credit ≤ 9 → n .at ≤ at → ((v : IsNamed s from R n) → (at ≤ length s) × (R ≡ read (letter (atom (v .others) (v .items) credit)) (drop at s)))
-      → ReadsAtom s from R record { good = n .good; at = at; set = n .set; hollow = hollow; reversed = n .reversed; credit = credit }
-  reads-atom at credit h l k =
-      by-test (n .good)
-      (λ g.
-      let v = w .yes g in
-      let p = v .read .place in
-      let e = k v .1 in
-      record {
-        same = g ∙ sym (ap (λ (X : Read). X .good) e);
-        on = λ _. omega arith;
-        within = λ _. k v .0;
-        rest = λ _. ap (λ (X : Read). X .rest) e;
-        has = λ _. record {
-          what = atom (v .others) (v .items) credit;
-          part = ap (λ (X : Read). X .part) e;
-          has = v .has;
-          hollow = none-same (n .set) (holds (atom (v .others) (v .items) credit)) (λ c. v .has c ∙ sym (and-self-left (isLetter c) _)) hollow (none .0) (none .1);
-          turned = v .turned;
-          credit = refl;
-          small = h;
-        };
-      })
-      (λ g. not-atom s from R _ g (ap (λ (X : Read). X .good) (w .no g)))
+  -- it is read up to a place
+  credit-read : (c : ℤ) (to raised : ℕ) → readCredit (drop at s) ≡ credit c (drop to s) → at ≤ to → (at ≤ length s → to ≤ length s) → lowered 1 raised ≡ c → raised ≤ 18
+      → ReadsCredit s at (readCredit (drop at s)) (creditTo to raised)
+  credit-read c to raised e on within is low = record {
+    same = sym (ap (λ (C : Credit). C .good) e);
+    on = λ _. on;
+    within = λ _. within;
+    rest = λ _. ap (λ (C : Credit). C .rest) e;
+    credit = λ _. is ∙ sym (ap (λ (C : Credit). C .credit) e);
+    small = λ _. low;
+  }
 
-  by-first : (v : IsNamed s from R n) (t : Bool) → eqb (peek (drop (n .at) s)) 61 ≡ t
-      → R ≡ creditOf t (v .others) (v .items) (peek (drop (n .at + 1) s)) (drop (n .at) s) (drop (n .at + 2) s)
-  by-first v t e = v .read .same ∙ (λ i. creditOf (e i) (v .others) (v .items) (second-byte s (n .at) i) (drop (n .at) s) (drop-drop 2 (n .at) s i))
+  pub credit-none : (peek (drop at s) ≡ 61 → ⊥) → ReadsCredit s at (readCredit (drop at s)) (creditTo at 9)
+  credit-none d =
+      credit-read (pos 0) at 9 (if-yes (credit (pos 0) (drop at s)) _ (not (eqb (peek (drop at s)) 61)) (ap not (ne-eqb (peek (drop at s)) 61 d))) (omega arith) (λ l. l) refl (omega arith)
 
-  pub credit-none : (peek (drop (n .at) s) ≡ 61 → ⊥) → ReadsAtom s from R record { good = n .good; at = n .at; set = n .set; hollow = hollow; reversed = n .reversed; credit = 0 }
-  credit-none d = reads-atom (n .at) 0 (omega arith) (omega arith) (λ v. (v .read .place .within, by-first v false (ne-eqb (peek (drop (n .at) s)) 61 d)))
+  module _ (is : peek (drop at s) ≡ 61) (d : ℕ) (ed : d ≡ peek (drop (at + 1) s)) where
+    credit-tests : (y z : Bool) (e : ℕ) → e ≡ peek (drop (at + 2) s) → creditDigit d ≡ y → (eqb d 45 && creditDigit e) ≡ z → readCredit (drop at s) ≡ creditBy true y z d e
+    credit-tests y z e ee p q =
+        (λ i. creditOf (eq-eqb (peek (drop at s)) 61 is i) ((later-byte s at 1 ∙ sym ed) i) ((later-byte s at 2 ∙ sym ee) i) (drop-drop 2 at s i) (drop-drop 3 at s i))
+        ∙ (λ i. creditBy true (p i) (q i) d e)
+      where
+        creditOf : Bool → ℕ → ℕ → List ℕ → List ℕ → Credit
+        creditOf x d e t u =
+            if not x then credit (pos 0) (drop at s)
+            else if creditDigit d then credit (pos (d - 48)) t
+            else if eqb d 45 && creditDigit e then credit (negℤ (pos (e - 48))) u
+            else noCredit
 
-  module _ (e : peek (drop (n .at) s) ≡ 61) (d : ℕ) (ed : d ≡ peek (drop (n .at + 1) s)) where
-    by-digit : (v : IsNamed s from R n) (t : Bool) → (leb 49 d && leb d 57) ≡ t
-        → R ≡ (if t then read (letter (atom (v .others) (v .items) (d - 48))) (drop (n .at + 2) s) else broken)
-    by-digit v t h =
-        by-first v true (eq-eqb (peek (drop (n .at) s)) 61 e)
-        ∙ ap (λ (x : ℕ). creditOf true (v .others) (v .items) x (drop (n .at) s) (drop (n .at + 2) s)) (sym ed)
-        ∙ ap (λ (u : Bool). if u then read (letter (atom (v .others) (v .items) (d - 48))) (drop (n .at + 2) s) else broken) h
+    not-credit : readCredit (drop at s) ≡ noCredit → (r : CreditRead) → r .good ≡ false → ReadsCredit s at (readCredit (drop at s)) r
+    not-credit e r g =
+        let never : r .good ≡ true → ⊥ = λ h. false≢true (sym g ∙ h) in
+        record { same = g ∙ sym (ap (λ (C : Credit). C .good) e); on = λ h. absurd (never h); within = λ h. absurd (never h); rest = λ h. absurd (never h); credit = λ h. absurd (never h); small = λ h. absurd (never h) }
 
-    pub credit-bad : (leb 49 d && leb d 57) ≡ false → (r : Lettered) → r .good ≡ false → ReadsAtom s from R r
-    credit-bad h r g =
-        not-atom s from R r g
-        (by-test (n .good) (λ k. ap (λ (X : Read). X .good) (by-digit (w .yes k) false h)) (λ k. ap (λ (X : Read). X .good) (w .no k)))
-
-    pub credit-good : (leb 49 d && leb d 57) ≡ true → ReadsAtom s from R record { good = n .good; at = n .at + 2; set = n .set; hollow = hollow; reversed = n .reversed; credit = d - 48 }
-    credit-good h =
+    pub credit-on : creditDigit d ≡ true → ReadsCredit s at (readCredit (drop at s)) (creditTo (at + 2) (9 + (d - 48)))
+    credit-on h =
         let k = digit-range d h in
-        let z = byte-within s (n .at + 1) (d - 1) (sym ed ∙ omega arith) in
-        reads-atom (n .at + 2) (d - 48) (omega arith) (omega arith) (λ v. (omega arith, by-digit v true h))
+        let z = byte-within s (at + 1) (d - 1) (sym ed ∙ omega arith) in
+        credit-read (pos (d - 48)) (at + 2) (9 + (d - 48)) (credit-tests true (eqb d 45 && creditDigit (peek (drop (at + 2) s))) (peek (drop (at + 2) s)) refl h refl) (omega arith) (λ l. omega arith) (lowered-on (d - 48)) (omega arith)
+
+    module _ (not-digit : creditDigit d ≡ false) where
+      pub credit-bad : (d ≡ 45 → ⊥) → (r : CreditRead) → r .good ≡ false → ReadsCredit s at (readCredit (drop at s)) r
+      credit-bad h = not-credit (credit-tests false false (peek (drop (at + 2) s)) refl not-digit (ap (λ (t : Bool). t && creditDigit (peek (drop (at + 2) s))) (ne-eqb d 45 h)))
+
+      module _ (minus : d ≡ 45) (e : ℕ) (ee : e ≡ peek (drop (at + 2) s)) where
+        by-digit : (t : Bool) → creditDigit e ≡ t → readCredit (drop at s) ≡ creditBy true false t d e
+        by-digit t h = credit-tests false t e ee not-digit (ap₂ _&&_ (eq-eqb d 45 minus) h)
+
+        pub credit-off-bad : creditDigit e ≡ false → (r : CreditRead) → r .good ≡ false → ReadsCredit s at (readCredit (drop at s)) r
+        credit-off-bad h = not-credit (by-digit false h)
+
+        pub credit-off : creditDigit e ≡ true → ReadsCredit s at (readCredit (drop at s)) (creditTo (at + 3) (9 - (e - 48)))
+        credit-off h =
+            let k = digit-range e h in
+            let z = byte-within s (at + 2) (e - 1) (sym ee ∙ omega arith) in
+            credit-read (negℤ (pos (e - 48))) (at + 3) (9 - (e - 48)) (by-digit true h) (omega arith) (λ l. omega arith) (lowered-off (e - 48) (omega arith)) (omega arith)
+
+-- the letters and the credit after them
+module _ (s : List ℕ) (n : Named) (from : ℕ) (R : Read) (w : ReadsNamed s from R n) (hollow : Bool) (none : (hollow ≡ true → (c : ℕ) → hasLetter (n .set) c ≡ false) × (hollow ≡ false → Some (n .set))) where
+  pub reads-atom : (r : CreditRead) → ReadsCredit s (n .at) (readCredit (drop (n .at) s)) r
+      → ReadsAtom s from R record { good = n .good && r .good; at = r .at; set = n .set; hollow = hollow; reversed = n .reversed; credit = r .raised }
+  reads-atom r read-credit = by-test (n .good) good (λ g. not-atom s from R _ (ap (λ (t : Bool). t && r .good) g) (ap (λ (X : Read). X .good) (w .no g)))
+    where
+      C : Credit
+      C = readCredit (drop (n .at) s)
+
+      made : Lettered
+      made = record { good = n .good && r .good; at = r .at; set = n .set; hollow = hollow; reversed = n .reversed; credit = r .raised }
+
+      good : n .good ≡ true → ReadsAtom s from R made
+      good g = by-test (r .good) yes (λ h. not-atom s from R made (ap₂ _&&_ g h) (ap (λ (X : Read). X .good) (is false (sym (read-credit .same) ∙ h))))
+        where
+          v : IsNamed s from R n
+          v = w .yes g
+
+          is : (t : Bool) → C .good ≡ t → R ≡ (if t then read (letter (atom (v .others) (v .items) (C .credit))) (C .rest) else broken)
+          is t h = v .read .same ∙ ap (λ (b : Bool). if b then read (letter (atom (v .others) (v .items) (C .credit))) (C .rest) else broken) h
+
+          yes : r .good ≡ true → ReadsAtom s from R made
+          yes h =
+              let e = is true (sym (read-credit .same) ∙ h) in
+              let p = v .read .place in
+              let on = read-credit .on h in
+              record {
+                same = ap₂ _&&_ g h ∙ sym (ap (λ (X : Read). X .good) e);
+                on = λ _. omega arith;
+                within = λ _. read-credit .within h (p .within);
+                rest = λ _. ap (λ (X : Read). X .rest) e ∙ read-credit .rest h;
+                has = λ _. record {
+                  what = atom (v .others) (v .items) (C .credit);
+                  part = ap (λ (X : Read). X .part) e;
+                  has = v .has;
+                  hollow = none-same (n .set) (holds (atom (v .others) (v .items) (C .credit))) (λ c. v .has c ∙ sym (and-self-left (isLetter c) _)) hollow (none .0) (none .1);
+                  turned = v .turned;
+                  credit = read-credit .credit h;
+                  small = read-credit .small h;
+                };
+              }
 
 -- ---- one letter, all letters
 

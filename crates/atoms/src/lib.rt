@@ -3,19 +3,18 @@
 use classes::Named;
 use letters::LetterSet;
 ghost use mathlib.Core.Path.{_≡_};
-ghost use mathlib.Core.Bool.{true, false, _&&_};
+ghost use mathlib.Core.Bool.{true, false};
 ghost use mathlib.Core.List.{List, [], _∷_};
 ghost use Prim.Native.Nat.{ℕ};
-ghost use lib.Dec.{leb};
 ghost use lib.ListN.{drop};
 ghost use Rattle.basics.specs.Bytes.{isIn};
 ghost use Rattle.pattern.specs.Parts.{item as anItem};
-ghost use Rattle.pattern.specs.Grammar.{Read, broken, special as specialBytes, readLetter};
+ghost use Rattle.pattern.specs.Grammar.{Read, broken, special as specialBytes, creditDigit, readCredit, readLetter};
 ghost use Rattle.classes.specs.Classes.{Decides, UpToCredit, ReadsNamed};
-ghost use Rattle.atoms.specs.Atoms.{ReadsAtom};
+ghost use Rattle.atoms.specs.Atoms.{creditTo, ReadsCredit, ReadsAtom};
 
 // A lettered atom that was read: where it ends, its letters, whether it has none, whether a range of it is reversed, and its
-// credit. Where `good` is false there is none, and the rest means nothing.
+// credit, raised by 9, so that it has no sign. Where `good` is false there is none, and the rest means nothing.
 pub struct Lettered {
     pub good: bool,
     pub at: usize,
@@ -103,54 +102,77 @@ fn special(b: u8) -> bool
     }
 }
 
-// Letters that were read, with the credit after them. Without one the credit is 0.
+// Letters that were read, with the credit after them.
 fn with_credit(s: &[u8], n: Named) -> Lettered
     ensures { λ r. ⌜ ((from : ℕ) (R : Read) → ReadsNamed (now (s .entry)) from R n → ReadsAtom (now (s .entry)) from R r) ⌝ }
 {
-    let at = n.at;
     let set = n.set;
     let hollow = letters::is_empty(set);
-    if places::byte_at(s, at) != b'=' {
-        return Lettered {
-            good: n.good,
-            at: at,
-            set: set,
-            hollow: hollow,
-            reversed: n.reversed,
-            credit: 0,
-        };
-    }
-    let d = places::byte_at(s, at + 1);
-    if !credit_digit(d) {
-        return no_atom();
-    }
+    let c = credit(s, n.at);
     Lettered {
-        good: n.good,
-        at: at + 2,
+        good: n.good & c.good,
+        at: c.at,
         set: set,
         hollow: hollow,
         reversed: n.reversed,
-        credit: d - b'0',
+        credit: c.raised,
+    }
+}
+
+// A credit that was read: where it ends, and what it is, raised by 9. Where `good` is false the grammar is broken, and the rest
+// means nothing.
+struct CreditRead {
+    good: bool,
+    at: usize,
+    raised: u8,
+}
+
+// The credit that stands at a place of s: 0 where there is no `=`.
+fn credit(s: &[u8], at: usize) -> CreditRead
+    ensures { λ r. ⌜ ReadsCredit (now (s .entry)) at (readCredit (drop at (now (s .entry)))) r ⌝ }
+{
+    if places::byte_at(s, at) != b'=' {
+        return credit_to(at, 9);
+    }
+    let d = places::byte_at(s, at + 1);
+    if credit_digit(d) {
+        return credit_to(at + 2, 9 + (d - b'0'));
+    }
+    if d != b'-' {
+        return no_credit();
+    }
+    let e = places::byte_at(s, at + 2);
+    if !credit_digit(e) {
+        return no_credit();
+    }
+    credit_to(at + 3, 9 - (e - b'0'))
+}
+
+// A credit that ends at a place.
+fn credit_to(at: usize, raised: u8) -> CreditRead
+    ensures { λ r. ⌜ r ≡ creditTo at raised ⌝ }
+{
+    CreditRead {
+        good: true,
+        at: at,
+        raised: raised,
+    }
+}
+
+// None that the grammar has.
+fn no_credit() -> CreditRead
+    ensures { λ r. ⌜ r .good ≡ false ⌝ }
+{
+    CreditRead {
+        good: false,
+        at: 0,
+        raised: 9,
     }
 }
 
 // Is a byte a digit that a credit can have.
 fn credit_digit(d: u8) -> bool
-    ensures { λ r. ⌜ r ≡ (leb 49 d && leb d 57) ⌝ }
+    ensures { λ r. ⌜ r ≡ creditDigit d ⌝ }
 {
     (b'1' <= d) & (d <= b'9')
-}
-
-// No lettered atom.
-fn no_atom() -> Lettered
-    ensures { λ r. ⌜ r .good ≡ false ⌝ }
-{
-    Lettered {
-        good: false,
-        at: 0,
-        set: letters::empty(),
-        hollow: true,
-        reversed: false,
-        credit: 0,
-    }
 }

@@ -12,7 +12,7 @@ use lib.ListN.{getD}
 use borrow.Author.Tests.{eq-eqb, ne-eqb, eqb-true}
 use Rattle.basics.specs.Choice.{if_then_else_}
 use Rattle.basics.specs.Folds.{foldIf, sumIf, anyIf, listIf, mostIf, Less, LeastOf}
-use Rattle.basics.proofs.Tests.{by-test, by-equal, le-or-lt, if-yes, if-no, if-either, or-left, or-right, or-cases, and-parts, and-of, same-test}
+use Rattle.basics.proofs.Tests.{by-test, by-equal, if-yes, if-no, if-either, or-left, or-right, or-cases, and-parts, and-of, same-test}
 
 pub less-here : (p q : ℕ → Bool) (t : ℕ) → Less p t q → q t ≡ false
 less-here p q t e = e t ∙ ap (λ (b : Bool). p t && not b) (eq-eqb t t refl) ∙ and-false (p t)
@@ -144,10 +144,6 @@ max-comm a b = omega arith
 pub max-assoc : (a b c : ℕ) → max (max a b) c ≡ max a (max b c)
 max-assoc a b c = omega arith
 
--- what holds of both holds of it
-either-max : (P : ℕ → Type 0) (a b : ℕ) → P a → P b → P (max a b)
-either-max P a b p q = ⊎-elim (λ l. subst P (omega arith) q) (λ l. subst P (omega arith) p) (le-or-lt a b)
-
 pub most-least : (p q : ℕ → Bool) (t : ℕ) → Less p t q → p t ≡ true → ((j : ℕ) → j < t → p j ≡ false) → (f : ℕ → ℕ) (n : ℕ) → t < n → mostIf p f n ≡ max (f t) (mostIf q f n)
 most-least = fold-least 0 max (λ a. max-comm 0 a ∙ max-none a) max-none max-assoc
 
@@ -155,12 +151,6 @@ most-least = fold-least 0 max (λ a. max-comm 0 a ∙ max-none a) max-none max-a
 pub most-above : (p : ℕ → Bool) (f : ℕ → ℕ) (n i : ℕ) → i < n → p i ≡ true → f i ≤ mostIf p f n
 most-above p f n i l e =
     fold-has 0 max (λ (a : ℕ). f i ≤ a) (λ a b h. omega (arith, le-max a b)) (λ a b h. omega (arith, le-max a b)) p f n i l e (le-refl (f i))
-
--- where it is above 0, it is one of the values
-pub most-found : (p : ℕ → Bool) (f : ℕ → ℕ) (n : ℕ) → 1 ≤ mostIf p f n → (i : ℕ) × (i < n) × (p i ≡ true) × (f i ≡ mostIf p f n)
-most-found p f n =
-    fold-keeps 0 max (λ (a : ℕ). 1 ≤ a → (i : ℕ) × (i < n) × (p i ≡ true) × (f i ≡ a)) (λ h. absurd (omega arith))
-    (either-max (λ (x : ℕ). 1 ≤ x → (i : ℕ) × (i < n) × (p i ≡ true) × (f i ≡ x))) p f n (λ i l e h. (i, l, e, refl))
 
 -- ---- a test that holds of a member
 

@@ -113,6 +113,12 @@ module _ {A : Type 0} where
   alike P (suc n) a d p q zero = p
   alike P (suc n) a d p q (suc i) = alike P n a d p q i
 
+  -- within a list what stands for a missing entry plays no part
+  pub within-any : (xs : List A) (i : ℕ) (a b : A) → i < length xs → getD xs i a ≡ getD xs i b
+  within-any [] i a b l = absurd (not-suc-le-zero l)
+  within-any (x ∷ xs) zero a b l = refl
+  within-any (x ∷ xs) (suc i) a b l = within-any xs i a b (le-of-suc-le-suc l)
+
   -- an entry more at the end leaves all others
   pub last-other : (xs : List A) (a d : A) (i : ℕ) → (i ≡ length xs → ⊥) → getD (xs ++ (a ∷ [])) i d ≡ getD xs i d
   last-other [] a d zero h = absurd (h refl)

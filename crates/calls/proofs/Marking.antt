@@ -4,6 +4,7 @@ use mathlib.Core.Bool.{true, false, not}
 use mathlib.Core.List.{List}
 use Prim.Native.Nat.{ℕ, _^_, _≤_, _<_, min}
 use lib.Dec.{eqb, ltb}
+use lib.IntN.{pos}
 use lib.ListN.{length}
 use borrow.Author.Tests.{eqb-true, eq-eqb, ne-eqb, lt-ltb, le-ltb}
 use Rattle.basics.specs.Choice.{if_then_else_}
@@ -51,13 +52,13 @@ module _ (s a : List ℕ) where
 
   -- ---- what is promised
 
-  pub says-refusal : (k : ℕ) (r : Marked) → (k ≡ 0 → ⊥) → markRefusal s a ≡ k → (r .refusal ≡ k) × (r .count ≡ 0) × (r .mark ≡ 0) → MarkSays s a r
+  pub says-refusal : (k : ℕ) (r : Marked) → (k ≡ 0 → ⊥) → markRefusal s a ≡ k → (r .refusal ≡ k) × (r .count ≡ 0) × (r .mark ≡ pos 0) → MarkSays s a r
   says-refusal k r d f h =
       let n : eqb (markRefusal s a) 0 ≡ false = ne-eqb (markRefusal s a) 0 (λ e. d (sym f ∙ e)) in
       record {
         refusal = h .0 ∙ sym f;
         count = h .1 ∙ sym (if-no (min (readings (patternGraph s) a) (2 ^ 63)) 0 (eqb (markRefusal s a) 0) n);
-        mark = h .2 ∙ sym (if-no (mark (patternGraph s) a) 0 (eqb (markRefusal s a) 0) n);
+        mark = h .2 ∙ sym (if-no (mark (patternGraph s) a) (pos 0) (eqb (markRefusal s a) 0) n);
       }
 
   pub says-mark : (g : Graph) (r : Marked) → g ≡ builtGraph s → markRefusal s a ≡ 0 → (r .refusal ≡ 0) × Answered g a (r .count) (r .mark) → MarkSays s a r
@@ -67,5 +68,5 @@ module _ (s a : List ℕ) where
       record {
         refusal = h .0 ∙ sym f;
         count = w .counts ∙ sym (if-yes (min (readings (patternGraph s) a) (2 ^ 63)) 0 (eqb (markRefusal s a) 0) y);
-        mark = w .marks ∙ sym (if-yes (mark (patternGraph s) a) 0 (eqb (markRefusal s a) 0) y);
+        mark = w .marks ∙ sym (if-yes (mark (patternGraph s) a) (pos 0) (eqb (markRefusal s a) 0) y);
       }

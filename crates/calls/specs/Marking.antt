@@ -4,6 +4,7 @@ use mathlib.Core.Bool.{not}
 use mathlib.Core.List.{List}
 use Prim.Native.Nat.{ℕ, _^_, min}
 use lib.Dec.{eqb, ltb}
+use lib.IntN.{ℤ, pos}
 use lib.ListN.{length}
 use Rattle.basics.specs.Choice.{if_then_else_}
 use Rattle.alphabet.specs.Alphabet.{allLetters}
@@ -25,8 +26,8 @@ markRefusal s a =
 abbrev pub countShown : List ℕ → List ℕ → ℕ
 countShown s a = if eqb (markRefusal s a) 0 then min (readings (patternGraph s) a) (2 ^ 63) else 0
 
-abbrev pub markShown : List ℕ → List ℕ → ℕ
-markShown s a = if eqb (markRefusal s a) 0 then mark (patternGraph s) a else 0
+abbrev pub markShown : List ℕ → List ℕ → ℤ
+markShown s a = if eqb (markRefusal s a) 0 then mark (patternGraph s) a else pos 0
 
 pub record MarkSays (s a : List ℕ) (r : Marked) : Type 0 where
   pub refusal : r .refusal ≡ markRefusal s a

@@ -3,6 +3,7 @@
 use marks::Marked;
 use vetting::Vetted;
 ghost use mathlib.Core.Path.{_≡_};
+ghost use lib.IntN.{pos};
 ghost use Rattle.calls.specs.Marking.{MarkSays};
 ghost use Rattle.calls.specs.Vetting.{VetSays, refused};
 
@@ -61,7 +62,7 @@ fn no_verdict(refusal: u8) -> Vetted
 
 // A refusal to mark.
 fn no_mark(refusal: u8) -> Marked
-    ensures { λ r. ⌜ (r .refusal ≡ refusal) × (r .count ≡ 0) × (r .mark ≡ 0) ⌝ }
+    ensures { λ r. ⌜ (r .refusal ≡ refusal) × (r .count ≡ 0) × (r .mark ≡ pos 0) ⌝ }
 {
     Marked {
         refusal: refusal,

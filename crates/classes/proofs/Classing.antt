@@ -4,6 +4,7 @@ use mathlib.Core.Bool.{Bool, true, false, _&&_, not}
 use mathlib.Core.List.{List, []}
 use Prim.Native.Nat.{ℕ, suc, _+_, _-_, _<_}
 use native.Mathlib.Omega.{arith}
+use lib.IntN.{pos}
 use lib.ListN.{length, drop, length-drop}
 use lib.Seq.{drop-drop}
 use borrow.Author.Tests.{eq-eqb, ne-eqb}
@@ -20,7 +21,7 @@ abbrev classed : Bool → Items → Read
 classed o X = if X .good then withCredit o (X .items) (X .rest) else broken
 
 module _ (s : List ℕ) (t : ℕ) (X : Items) (n : Named) (w : ReadsItems s t X n) (o : Bool) (set : LetterSet) where
-  class-named : ((c : ℕ) → hasLetter (n .set) c ≡ (isLetter c && inItems c (X .items)) → hasLetter set c ≡ holds (atom o (X .items) 0) c) → (from : ℕ) → from < t
+  class-named : ((c : ℕ) → hasLetter (n .set) c ≡ (isLetter c && inItems c (X .items)) → hasLetter set c ≡ holds (atom o (X .items) (pos 0)) c) → (from : ℕ) → from < t
       → ReadsNamed s from (classed o X) record { good = n .good; at = n .at; set = set; reversed = n .reversed }
   class-named has from l = record {
     yes = λ g.

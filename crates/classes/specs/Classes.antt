@@ -4,6 +4,7 @@ use mathlib.Core.Bool.{Bool, true, false, _&&_, not}
 use mathlib.Core.List.{List, [], _∷_, _++_}
 use Prim.Native.Nat.{ℕ, suc, _<_, _≤_}
 use lib.Dec.{eqb}
+use lib.IntN.{pos}
 use lib.ListN.{length, drop}
 use Rattle.alphabet.specs.Alphabet.{isLetter}
 use Rattle.letters.specs.LetterSet.{hasLetter}
@@ -75,7 +76,7 @@ pub record IsNamed (s : List ℕ) (from : ℕ) (R : Read) (r : Named) : Type 0 w
   pub others : Bool
   pub items : List Item
   pub read : UpToCredit s from (r .at) R others items
-  pub has : (c : ℕ) → hasLetter (r .set) c ≡ holds (atom others items 0) c
+  pub has : (c : ℕ) → hasLetter (r .set) c ≡ holds (atom others items (pos 0)) c
   pub turned : r .reversed ≡ someReversed items
 
 abbrev pub ReadsNamed : List ℕ → ℕ → Read → Named → Type 0

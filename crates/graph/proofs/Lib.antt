@@ -1,5 +1,6 @@
 pub mod Links
 pub mod Walks
 pub mod Counting
+pub mod Best
 pub mod Marks
 pub mod Bounds

@@ -4,6 +4,7 @@ use mathlib.Core.Path.{_≡_}
 use mathlib.Core.Bool.{Bool, true, false, _&&_}
 use Prim.Native.Nat.{ℕ, zero, suc, _≤_}
 use lib.Dec.{leb}
+use lib.IntN.{ℤ, pos, natAbs}
 use Rattle.alphabet.specs.Alphabet.{isLetter}
 
 -- are there any; are there two or more
@@ -25,7 +26,8 @@ pub record Graph : Type 0 where
   pub last : ℕ → Bool
   -- does a position's set hold a letter
   pub holds : ℕ → ℕ → Bool
-  pub credit : ℕ → ℕ
+  -- what a position earns; below zero, what it takes off
+  pub credit : ℕ → ℤ
 
 -- [Positions] 1 to p
 abbrev pub isPosition : Graph → ℕ → Bool
@@ -49,10 +51,10 @@ step g u b i = isPosition g i && (next g u i && g .holds i b)
 
 -- no pattern: no position, no reading
 abbrev pub noGraph : Graph
-noGraph = record { positions = 0; links = λ u i. 0; last = λ u. false; holds = λ i b. false; credit = λ i. 0 }
+noGraph = record { positions = 0; links = λ u i. 0; last = λ u. false; holds = λ i b. false; credit = λ i. pos 0 }
 
 -- what holds of every pattern's graph and bounds the numbers in a program over it: at most 60 positions, nothing beyond them,
--- letters only, credits of one digit
+-- letters only, credits from -9 to 9
 pub record Bounded (g : Graph) : Type 0 where
   pub few : g .positions ≤ 60
   pub next-from : (u i : ℕ) → next g u i ≡ true → u ≤ g .positions
@@ -60,4 +62,4 @@ pub record Bounded (g : Graph) : Type 0 where
   pub last-from : (u : ℕ) → g .last u ≡ true → u ≤ g .positions
   pub holds-at : (i b : ℕ) → g .holds i b ≡ true → isPosition g i ≡ true
   pub letters : (i b : ℕ) → g .holds i b ≡ true → isLetter b ≡ true
-  pub credits : (i : ℕ) → g .credit i ≤ 9
+  pub credits : (i : ℕ) → natAbs (g .credit i) ≤ 9

@@ -2,10 +2,11 @@
 -- Each is one function of a state: at 0, before any letter, it is the reading, the count or the mark of the whole answer.
 use mathlib.Core.Bool.{Bool, false, _&&_}
 use mathlib.Core.List.{List, [], _∷_, map}
-use Prim.Native.Nat.{ℕ, zero, suc, _+_, _-_, _*_}
+use Prim.Native.Nat.{ℕ, suc, _*_, min, max}
 use lib.Dec.{ltb}
+use lib.IntN.{ℤ, pos, negsuc, _+ℤ_}
 use Rattle.basics.specs.Choice.{if_then_else_}
-use Rattle.basics.specs.Folds.{sumIf, mostIf}
+use Rattle.basics.specs.Folds.{foldIf, sumIf}
 use Rattle.graph.specs.Graph.{Graph, step}
 
 -- [Readings] one letter of a reading: the position, and which of the links that lead there was taken, counted from 0. To a first
@@ -33,10 +34,10 @@ readsFrom g u (b ∷ s) (t ∷ r) = (step g u b (t .position) && ltb (t .link) (
 abbrev pub isReading : Graph → List ℕ → List Transition → Bool
 isReading g s r = readsFrom g 0 s r
 
--- [Marks] a reading earns the sum of its positions' credits
-abbrev pub creditOf : Graph → List Transition → ℕ
-creditOf g [] = 0
-creditOf g (t ∷ r) = g .credit (t .position) + creditOf g r
+-- [Marks] a reading earns the sum of its positions' credits, which may be below zero
+abbrev pub creditOf : Graph → List Transition → ℤ
+creditOf g [] = pos 0
+creditOf g (t ∷ r) = g .credit (t .position) +ℤ creditOf g r
 
 -- [Counts] the number of readings, not yet cut at 2^63: the sum, over the positions that may come next, of the numbers from there,
 -- each as many times as links lead there
@@ -47,15 +48,37 @@ countFrom g u (b ∷ s) = sumIf (step g u b) (λ i. g .links u i * countFrom g i
 abbrev pub readings : Graph → List ℕ → ℕ
 readings g s = countFrom g 0 s
 
--- [Marks] plus 1: the most that a reading earns and 1 more, or 0 where there is none
-abbrev pub added : ℕ → ℕ → ℕ
-added c zero = 0
-added c (suc m) = suc (c + m)
+-- [Marks] the most that some readings earn, where there are any
+pub data Best : Type 0 where
+  noReading : Best
+  earns : ℤ → Best
 
-abbrev pub bestFrom : Graph → ℕ → List ℕ → ℕ
-bestFrom g u [] = if g .last u then 1 else 0
-bestFrom g u (b ∷ s) = mostIf (step g u b) (λ i. added (g .credit i) (bestFrom g i s)) (suc (g .positions))
+-- the greater of two numbers
+abbrev pub greater : ℤ → ℤ → ℤ
+greater (pos a) (pos b) = pos (max a b)
+greater (pos a) (negsuc b) = pos a
+greater (negsuc a) (pos b) = pos b
+greater (negsuc a) (negsuc b) = negsuc (min a b)
+
+-- of some readings and of others
+abbrev pub better : Best → Best → Best
+better noReading y = y
+better (earns x) noReading = earns x
+better (earns x) (earns y) = earns (greater x y)
+
+-- with a credit before each
+abbrev pub added : ℤ → Best → Best
+added c noReading = noReading
+added c (earns m) = earns (c +ℤ m)
+
+abbrev pub bestFrom : Graph → ℕ → List ℕ → Best
+bestFrom g u [] = if g .last u then earns (pos 0) else noReading
+bestFrom g u (b ∷ s) = foldIf noReading better (step g u b) (λ i. added (g .credit i) (bestFrom g i s)) (suc (g .positions))
 
 -- [Marks] the most that a reading earns, 0 where there is none
-abbrev pub mark : Graph → List ℕ → ℕ
-mark g s = bestFrom g 0 s - 1
+abbrev pub markOf : Best → ℤ
+markOf noReading = pos 0
+markOf (earns m) = m
+
+abbrev pub mark : Graph → List ℕ → ℤ
+mark g s = markOf (bestFrom g 0 s)

@@ -8,7 +8,9 @@ use mathlib.Core.List.{List, _++_}
 use Prim.Native.Nat.{ℕ, _+_, _*_, _^_, _≤_, min}
 use native.Mathlib.Omega.{arith}
 use lib.Dec.{eqb}
+use lib.IntN.{ℤ, pos}
 use lib.ListN.{length}
+use lib.Signed.{_≤ℤ_}
 use borrow.Author.Tests.{eq-eqb, ne-eqb}
 use Rattle.basics.specs.Lists.{Apart, In}
 use Rattle.basics.proofs.Tests.{if-yes, if-no}
@@ -28,7 +30,7 @@ use Rattle.calls.specs.Marking.{markRefusal, MarkSays}
 use Rattle.calls.specs.Vetting.{vetRefusal, refused, VetSays}
 use Rattle.calls.proofs.Marking as Marking
 use Rattle.calls.proofs.Vetting as Vetting
-use Rattle.marking.specs.Packing.{field, vetUnpacked, markUnpacked}
+use Rattle.marking.specs.Packing.{field, vetUnpacked, int32, markUnpacked}
 use Rattle.marking.specs.ForC.{MarkForC, VetForC, VetAlone}
 use Rattle.marking.proofs.Demands as Demands
 use Rattle.marking.proofs.Packing.{vet-fields, vet-unpacks, mark-fields, mark-unpacks}
@@ -42,15 +44,15 @@ pub record TrueMark (b s : List ℕ) (r : Marked) : Type 0 where
   pub counts-exactly-texts : Text (patternPart b) s ↔ (1 ≤ r .count)
   -- The count is the true one or 2^63: some list has all readings, each of them once, and the count is its length up to 2^63.
   pub count-is-true : (rs : List (List Transition)) × Apart rs × ((q : List Transition) → In q rs ↔ (isReading (patternGraph b) s q ≡ true)) × (r .count ≡ min (length rs) (2 ^ 63))
-  -- The mark is the most credit one reading earns, 0 if there is none.
+  -- The mark is the most credit one reading earns, an integer, 0 if there is none.
   pub mark-is-earned : 1 ≤ r .count → (q : List Transition) × (isReading (patternGraph b) s q ≡ true) × (creditOf (patternGraph b) q ≡ r .mark)
-  pub mark-is-most : (q : List Transition) → isReading (patternGraph b) s q ≡ true → creditOf (patternGraph b) q ≤ r .mark
-  pub mark-is-none : r .count ≡ 0 → r .mark ≡ 0
+  pub mark-is-most : (q : List Transition) → isReading (patternGraph b) s q ≡ true → creditOf (patternGraph b) q ≤ℤ r .mark
+  pub mark-is-none : r .count ≡ 0 → r .mark ≡ pos 0
 
 pub record MarkKeeps (b s : List ℕ) (r : Marked) : Type 0 where
   -- Demand 1: each refusal under its own condition and no other; and it is a number and nothing else.
   pub refusal-is : r .refusal ≡ markRefusal b s
-  pub refusal-alone : (r .refusal ≡ 0 → ⊥) → (r .count ≡ 0) × (r .mark ≡ 0)
+  pub refusal-alone : (r .refusal ≡ 0 → ⊥) → (r .count ≡ 0) × (r .mark ≡ pos 0)
   -- An accepted pattern always gets a mark, of any answer of up to 4,096 letters.
   pub accepted-gets-mark : patternRefusal b ≡ 0 → length s ≤ 4096 → allLetters s ≡ true → r .refusal ≡ 0
   pub true-mark : r .refusal ≡ 0 → TrueMark b s r
@@ -129,7 +131,7 @@ module _ (b s : List ℕ) (r : Marked) (says : MarkSays b s r) where
       let a = Marking.pattern-accepted b s none in
       let yes = eq-eqb (markRefusal b s) 0 none in
       let count : r .count ≡ min (readings (patternGraph b) s) (2 ^ 63) = says .count ∙ if-yes (min (readings (patternGraph b) s) (2 ^ 63)) 0 (eqb (markRefusal b s) 0) yes in
-      let best : r .mark ≡ mark (patternGraph b) s = says .mark ∙ if-yes (mark (patternGraph b) s) 0 (eqb (markRefusal b s) 0) yes in
+      let best : r .mark ≡ mark (patternGraph b) s = says .mark ∙ if-yes (mark (patternGraph b) s) (pos 0) (eqb (markRefusal b s) 0) yes in
       let some : 1 ≤ r .count → 1 ≤ readings (patternGraph b) s = λ l. omega arith in
       record {
         counts-exactly-texts = (
@@ -138,7 +140,7 @@ module _ (b s : List ℕ) (r : Marked) (says : MarkSays b s r) where
         );
         count-is-true = let l = Demands.count-is-true b s a in (l .0, l .1, l .2, count ∙ ap (λ (n : ℕ). min n (2 ^ 63)) (sym (l .3)));
         mark-is-earned = λ l. let m = Demands.mark-is-earned b s a (some l) in (m .0, m .1, m .2 ∙ sym best);
-        mark-is-most = λ q h. subst (λ (n : ℕ). creditOf (patternGraph b) q ≤ n) (sym best) (Demands.mark-is-most b s q a h);
+        mark-is-most = λ q h. subst (λ (n : ℤ). creditOf (patternGraph b) q ≤ℤ n) (sym best) (Demands.mark-is-most b s q a h);
         mark-is-none = λ e. best ∙ Demands.mark-is-none b s a (omega arith);
       }
 
@@ -148,13 +150,13 @@ module _ (b s : List ℕ) (r : Marked) (says : MarkSays b s r) where
     refusal-is = says .refusal;
     refusal-alone = λ d.
         let no = ne-eqb (markRefusal b s) 0 (λ z. d (says .refusal ∙ z)) in
-        (says .count ∙ if-no (min (readings (patternGraph b) s) (2 ^ 63)) 0 (eqb (markRefusal b s) 0) no, says .mark ∙ if-no (mark (patternGraph b) s) 0 (eqb (markRefusal b s) 0) no);
+        (says .count ∙ if-no (min (readings (patternGraph b) s) (2 ^ 63)) 0 (eqb (markRefusal b s) 0) no, says .mark ∙ if-no (mark (patternGraph b) s) (pos 0) (eqb (markRefusal b s) 0) no);
     accepted-gets-mark = λ a l t. says .refusal ∙ Marking.accepted b s a l t;
     true-mark = true-mark;
   }
 
 -- For C: the header's shifts and masks give back what was packed.
-pub mark-fields-again : (b s : List ℕ) (old new n : ℕ) (h : MarkForC b s old new n) → (field n 32 8 ≡ h .marked .refusal) × (field n 0 32 ≡ h .marked .mark)
+pub mark-fields-again : (b s : List ℕ) (old new n : ℕ) (h : MarkForC b s old new n) → (field n 32 8 ≡ h .marked .refusal) × (int32 (field n 0 32) ≡ h .marked .mark)
 mark-fields-again b s old new n h = mark-fields b s old new n h
 
 -- `marking_mark` gave n, and behind the pointer stood `old` before and stands `new` after: the header's fields of n, with `new` for

@@ -7,7 +7,9 @@ use mathlib.Core.Logic.{_↔_}
 use mathlib.Core.Bool.{true}
 use mathlib.Core.List.{List, _++_}
 use Prim.Native.Nat.{ℕ, _+_, _*_, _^_, _≤_}
+use lib.IntN.{pos}
 use lib.ListN.{length}
+use lib.Signed.{_≤ℤ_}
 use Rattle.basics.specs.Lists.{Apart, In}
 use Rattle.alphabet.specs.Alphabet.{allLetters}
 use Rattle.graph.specs.Readings.{Transition, isReading, readings, creditOf, mark}
@@ -34,17 +36,17 @@ pub count-is-true : (b s : List ℕ) → patternRefusal b ≡ 0
     → (rs : List (List Transition)) × Apart rs × ((r : List Transition) → In r rs ↔ (isReading (patternGraph b) s r ≡ true)) × (length rs ≡ readings (patternGraph b) s)
 count-is-true b s a = Counting.readings-listed (patternGraph b) s
 
--- "The mark is the most credit one reading earns": where there is a reading, one earns it;
+-- "The mark is the most credit one reading earns", an integer, as all credits are: where there is a reading, one earns it;
 pub mark-is-earned : (b s : List ℕ) → patternRefusal b ≡ 0 → 1 ≤ readings (patternGraph b) s
     → (r : List Transition) × (isReading (patternGraph b) s r ≡ true) × (creditOf (patternGraph b) r ≡ mark (patternGraph b) s)
 mark-is-earned b s a = Marks.mark-earned (patternGraph b) s
 
 -- no reading earns more;
-pub mark-is-most : (b s : List ℕ) (r : List Transition) → patternRefusal b ≡ 0 → isReading (patternGraph b) s r ≡ true → creditOf (patternGraph b) r ≤ mark (patternGraph b) s
+pub mark-is-most : (b s : List ℕ) (r : List Transition) → patternRefusal b ≡ 0 → isReading (patternGraph b) s r ≡ true → creditOf (patternGraph b) r ≤ℤ mark (patternGraph b) s
 mark-is-most b s r a = Marks.mark-most (patternGraph b) s r
 
 -- "0 if there is none."
-pub mark-is-none : (b s : List ℕ) → patternRefusal b ≡ 0 → readings (patternGraph b) s ≡ 0 → mark (patternGraph b) s ≡ 0
+pub mark-is-none : (b s : List ℕ) → patternRefusal b ≡ 0 → readings (patternGraph b) s ≡ 0 → mark (patternGraph b) s ≡ pos 0
 mark-is-none b s a = Marks.mark-none (patternGraph b) s
 
 -- ---- Demand 3: "Nobody who writes an answer can give it more readings than the verdict allows."

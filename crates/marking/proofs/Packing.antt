@@ -2,27 +2,30 @@
 use mathlib.Core.Path.{_≡_, refl, sym, ap, ap₂, _∙_, subst}
 use mathlib.Core.Bool.{not}
 use mathlib.Core.List.{List}
-use Prim.Native.Nat.{ℕ, zero, suc, _+_, _*_, _^_, _≤_, _<_}
+use Prim.Native.Nat.{ℕ, zero, suc, _+_, _-_, _*_, _^_, _≤_, _<_}
 use native.Mathlib.Nat.{mul-le-mul}
 use native.Mathlib.Omega.{arith}
 use lib.Dec.{eqb, ltb}
+use lib.IntN.{ℤ, pos, negsuc, subℕ}
 use lib.ListN.{length}
+use lib.Signed.{mag}
+use borrow.Author.Tests.{lt-ltb, le-ltb}
 use Rattle.basics.specs.Choice.{if_then_else_}
 use Rattle.basics.proofs.Tests.{by-test, if-yes, if-no, if-either}
 use Rattle.alphabet.specs.Alphabet.{allLetters}
 use Rattle.graph.specs.Graph.{Graph}
+use Rattle.graph.proofs.Best.{sub-neg}
 use Rattle.pattern.specs.Grammar.{isPattern, patternPart}
 use Rattle.pattern.specs.Refusals.{anyReversed, anyEmpty, patternRefusal}
 use Rattle.pattern.specs.Positions.{atoms, positions, patternGraph}
 use Rattle.pattern.proofs.Accepted.{refusal-none}
 use Rattle.verdict.specs.Answers.{ShowsBy}
 use Rattle.verdict.proofs.Bounds.{verdict-low}
-use Rattle.marks.specs.declared.Marked.{Marked}
 use Rattle.vetting.specs.declared.Vetted.{Vetted}
 use Rattle.calls.specs.Marking.{markRefusal, countShown, MarkSays}
 use Rattle.calls.specs.Vetting.{vetRefusal, VetBy, VetSays}
 use Rattle.calls.proofs.Vetting.{accepts}
-use Rattle.marking.specs.Packing.{field, vetPacked, vetUnpacked, markPacked, markUnpacked}
+use Rattle.marking.specs.Packing.{field, vetPacked, vetUnpacked, bits32, int32, markUnpacked}
 use Rattle.marking.specs.ForC.{countAfter, MarkForC, VetForC}
 
 -- ---- refusals
@@ -136,14 +139,26 @@ count-read s a old =
     (λ y. sym (if-yes (countAfter s a old) 0 (eqb (markRefusal s a) 0) y ∙ if-yes (countShown s a) old (eqb (markRefusal s a) 0) y))
     (λ n. if-no _ 0 (eqb (markRefusal s a) 0) n ∙ sym (if-no (countAfter s a old) 0 (eqb (markRefusal s a) 0) n))
 
--- packed and unpacked again
-mark-again : (r : Marked) → r .refusal ≤ 10 → r .mark < 2 ^ 32 → (field (markPacked r) 32 8 ≡ r .refusal) × (field (markPacked r) 0 32 ≡ r .mark)
-mark-again r low small = omega arith
+-- 32 bits give back the number that they were made of
+pub bits-low : (z : ℤ) → mag z < 2 ^ 31 → bits32 z < 2 ^ 32
+bits-low (pos n) l = omega arith
+bits-low (negsuc n) l = omega arith
 
-pub mark-fields : (s a : List ℕ) (old new n : ℕ) (h : MarkForC s a old new n) → (field n 32 8 ≡ h .marked .refusal) × (field n 0 32 ≡ h .marked .mark)
+bits-again : (z : ℤ) → mag z < 2 ^ 31 → int32 (bits32 z) ≡ z
+bits-again (pos n) l = if-yes (pos n) (subℕ n (2 ^ 32)) (ltb n (2 ^ 31)) (lt-ltb n (2 ^ 31) l)
+bits-again (negsuc n) l =
+    let b = 2 ^ 32 - suc n in
+    if-no (pos b) (subℕ b (2 ^ 32)) (ltb b (2 ^ 31)) (le-ltb b (2 ^ 31) (omega arith)) ∙ sub-neg b (2 ^ 32) (omega arith) ∙ ap negsuc (omega arith)
+
+-- packed and unpacked again
+mark-again : (k b : ℕ) → k ≤ 10 → b < 2 ^ 32 → (field (k * 2 ^ 32 + b) 32 8 ≡ k) × (field (k * 2 ^ 32 + b) 0 32 ≡ b)
+mark-again k b low small = omega arith
+
+pub mark-fields : (s a : List ℕ) (old new n : ℕ) (h : MarkForC s a old new n) → (field n 32 8 ≡ h .marked .refusal) × (int32 (field n 0 32) ≡ h .marked .mark)
 mark-fields s a old new n h =
-    subst (λ (k : ℕ). (field k 32 8 ≡ h .marked .refusal) × (field k 0 32 ≡ h .marked .mark)) (sym (h .packing))
-    (mark-again (h .marked) (omega (arith, h .says .refusal, mark-low s a)) (h .small))
+    let m = h .marked .mark in
+    let f = mark-again (h .marked .refusal) (bits32 m) (omega (arith, h .says .refusal, mark-low s a)) (bits-low m (h .small)) in
+    (ap (λ (k : ℕ). field k 32 8) (h .packing) ∙ f .0, ap (λ (k : ℕ). int32 (field k 0 32)) (h .packing) ∙ ap int32 (f .1) ∙ bits-again m (h .small))
 
 pub mark-unpacks : (s a : List ℕ) (old new n : ℕ) → MarkForC s a old new n → MarkSays s a (markUnpacked n new)
 mark-unpacks s a old new n h =

@@ -6,7 +6,7 @@ use vetting::Vetted;
 ghost use mathlib.Core.Path.{_≡_};
 ghost use Prim.Native.Nat.{_<_, _^_};
 ghost use Rattle.marking.specs.ForC.{MarkForC, VetForC, VetAlone};
-ghost use Rattle.marking.specs.Packing.{vetPacked};
+ghost use Rattle.marking.specs.Packing.{bits32, vetPacked};
 
 // Vets a pattern. The result has the refusal in bits 0 to 7, the verdict in 8 to 15, the number of positions in 16 to 23, the
 // lengths in 24 to 35, 36 to 47 and 48 to 59.
@@ -27,8 +27,8 @@ pub extern "C" fn marking_vet(pattern: &[u8], evidence: &mut [u8]) -> u64
     marking_vet_in(pattern, &mut *evidence, &mut scratch)
 }
 
-// Marks an answer. The result has the mark in bits 0 to 31 and the refusal in 32 to 39. The count is stored behind the pointer
-// where there is no refusal; at a refusal nothing is read or stored there.
+// Marks an answer. The result has the mark in bits 0 to 31, as two's complement, and the refusal in 32 to 39. The count is stored
+// behind the pointer where there is no refusal; at a refusal nothing is read or stored there.
 #[no_mangle]
 pub extern "C" fn marking_mark(pattern: &[u8], answer: &[u8], count: &mut u64) -> u64
     ensures { λ r. ⌜ MarkForC (now (pattern .entry)) (now (answer .entry)) (now (count .entry)) (now (count .exit)) r ⌝ }
@@ -37,7 +37,18 @@ pub extern "C" fn marking_mark(pattern: &[u8], answer: &[u8], count: &mut u64) -
     if m.refusal == 0 {
         *count = m.count;
     }
-    m.refusal as u64 * 0x1_0000_0000 + m.mark as u64
+    let mark = m.mark;
+    m.refusal as u64 * 0x1_0000_0000 + twos_complement(mark)
+}
+
+// A number as the 32 bits of its two's complement.
+fn twos_complement(n: i32) -> u64
+    ensures { λ r. ⌜ r ≡ bits32 n ⌝ }
+{
+    if n < 0 {
+        return (n as i64 + 0x1_0000_0000) as u64;
+    }
+    n as u64
 }
 
 // A result as one number.

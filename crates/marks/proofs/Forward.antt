@@ -3,29 +3,35 @@
 -- the one to the other, can be taken in either order.
 -- Assumes nothing.
 use mathlib.Core.Path.{_≡_, refl, sym, ap, ap₂, _∙_, subst}
-use mathlib.Core.Bool.{Bool, true, false, not, _&&_, and-true, and-false, and-comm, and-not-self, true≢false}
+use mathlib.Core.Logic.{⊎-elim}
+use mathlib.Core.Bool.{Bool, true, false, _&&_, and-true, and-false, and-comm, true≢false, false≢true}
 use mathlib.Core.List.{List, [], _∷_, _++_, append-nil, append-assoc}
-use Prim.Native.Nat.{ℕ, zero, suc, _+_, _-_, _*_, _^_, _≤_, _<_, zero-le, min, max}
-use native.Mathlib.Nat.{add-zero, add-comm, add-assoc, mul-zero, mul-one, one-mul, mul-add, mul-comm, mul-assoc, mod-eq-of-lt, lt-of-le-of-lt}
+use Prim.Native.Nat.{ℕ, suc, _+_, _*_, _%_, _^_, _≤_, _<_, zero-le, min, max}
+use native.Mathlib.Nat.{add-zero, zero-add, add-comm, add-assoc, mul-zero, mul-one, one-mul, mul-add, mul-comm, mul-assoc, mod-eq-of-lt, lt-of-le-of-lt}
 use native.Mathlib.Omega.{arith}
-use lib.Bits.{bitAnd, and-le-r}
+use lib.Bits.{bitAnd, and-le-l, and-le-r}
 use lib.Count.{trailingZeros}
 use lib.Dec.{eqb, ltb}
+use lib.IntN.{ℤ, pos, natAbs, _+ℤ_, +ℤ-idr}
 use lib.ListN.{length, getD, length-append}
-use borrow.Author.Tests.{eqb-true, ltb-true, ltb-false}
+use borrow.Author.Tests.{eqb-true, eq-eqb, ne-eqb, ltb-true, ltb-false}
 use Rattle.basics.specs.Choice.{if_then_else_}
-use Rattle.basics.specs.Folds.{foldIf, sumIf, mostIf, Less}
-use Rattle.basics.proofs.Tests.{and-parts, by-test, if-yes, if-no}
-use Rattle.basics.proofs.Folds.{fold-same, fold-keeps, fold-through, fold-longer, fold-where, fold-swap, max-le, max-none, max-comm, max-assoc}
-use Rattle.bits.specs.Bits.{hasBit, Least}
-use Rattle.bits.proofs.Laws.{has-none, has-pow, has-and, least-trailing}
-use Rattle.bits.proofs.Walk.{sum-turn, most-turn, walk-end}
+use Rattle.basics.specs.Folds.{foldIf, sumIf}
+use Rattle.basics.proofs.Tests.{and-parts, by-test, le-or-lt, if-yes, if-no}
+use Rattle.basics.proofs.Lists.{within-any}
+use Rattle.basics.proofs.Folds.{fold-zero, fold-yes, fold-same, fold-keeps, fold-through, fold-longer, fold-where, fold-swap, max-le}
+use Rattle.bits.specs.Bits.{hasBit}
+use Rattle.bits.proofs.Laws.{has-none, has-pow, has-and, least-trailing, member-below}
+use Rattle.bits.proofs.Walk.{walk-end}
 use Rattle.graph.specs.Graph.{Graph, some, isPosition, next, step, Bounded}
-use Rattle.graph.specs.Readings.{countFrom, readings, added, bestFrom}
+use Rattle.graph.specs.Built.{lowered, creditIn}
+use Rattle.graph.specs.Readings.{countFrom, readings, noReading, earns, better, added, bestFrom, markOf}
 use Rattle.graph.proofs.Walks.{position-of}
+use Rattle.graph.proofs.Best.{better-none, better-comm, better-assoc, added-better, added-twice, added-nothing, lowered-adds, raised-low}
+use Rattle.graph.proofs.Marks.{mark-none}
 use Rattle.frontier.specs.Rows.{cell, countOf, mostOf, arriving, weight, weighted, Stepped}
-use Rattle.marks.specs.Answers.{Row, linksOfTables, Answered}
-use Rattle.marks.proofs.Values.{sum-cut, sum-times, added-max, added-twice, most-less, most-added}
+use Rattle.marks.specs.Answers.{bestOf, Row, linksOfTables, Summed}
+use Rattle.marks.proofs.Values.{sum-cut, sum-times, best-added}
 
 -- ---- one letter on
 
@@ -73,35 +79,28 @@ some-tables false linked n = refl
 
 -- ---- rows
 
--- before any letter
+-- before any letter: what one state comes to
+alone : {A : Type 0} (none : A) (join : A → A → A) (f : ℕ → A) → foldIf none join (hasBit 1) f 61 ≡ join none (f 0)
+alone {A} none join f =
+    fold-longer none join (hasBit 1) f 1 61 (omega arith) (λ i l. has-pow 0 i ∙ ne-eqb 0 i (λ z. omega arith))
+    ∙ fold-yes none join (hasBit 1) f 0 (has-pow 0 0) ∙ ap (λ (a : A). join a (f 0)) (fold-zero none join (hasBit 1) f)
+
 module _ (g : Graph) (from : ℕ) (counts best : List ℕ) (one : cell counts from 0 ≡ 1) (nothing : cell best from 0 ≡ 0) where
-  alone : Least 1 0
-  alone = record { here = has-pow 0 0; none = λ j l. absurd (omega arith) }
-
-  others : Less (hasBit 1) 0 (hasBit 0)
-  others j = has-none j ∙ sym (ap (λ (x : Bool). x && not (eqb 0 j)) (has-pow 0 j) ∙ and-not-self (eqb 0 j))
-
   pub row-begin : Row g [] from 1 counts best
   row-begin = record {
     counted = λ t.
-        let f : ℕ → ℕ = λ u. cell counts from u * countFrom g u t in
         ap (λ (x : ℕ). min x (2 ^ 63))
-        (sum-turn 61 1 0 0 (omega arith) alone others f ∙ ap (λ (x : ℕ). f 0 + x) (walk-end 0 _+_ f 61 0 refl) ∙ add-zero (f 0)
+        (alone 0 _+_ (λ u. cell counts from u * countFrom g u t) ∙ zero-add (cell counts from 0 * readings g t)
         ∙ ap (λ (x : ℕ). x * readings g t) one ∙ one-mul (readings g t));
     marked = λ t.
-        let f : ℕ → ℕ = λ u. added (cell best from u) (bestFrom g u t) in
-        most-turn 61 1 0 0 (omega arith) alone others f ∙ ap (max (f 0)) (walk-end 0 max f 61 0 refl) ∙ max-none (f 0)
-        ∙ ap (λ (x : ℕ). added x (bestFrom g 0 t)) nothing ∙ as-is (bestFrom g 0 t);
+        alone noReading better (λ u. added (lowered 0 (cell best from u)) (bestFrom g u t))
+        ∙ ap (λ (x : ℕ). added (lowered 0 x) (bestFrom g 0 t)) nothing ∙ added-nothing (bestFrom g 0 t);
     low = λ u e. let z = eqb-true 0 u (sym (has-pow 0 u) ∙ e) in subst (λ (v : ℕ). cell best from v ≤ 0) z (omega (arith, nothing));
   }
-    where
-      as-is : (y : ℕ) → added 0 y ≡ y
-      as-is zero = refl
-      as-is (suc y) = omega arith
 
 -- one letter more
 module _ (g : Graph) (bounded : Bounded g) (b : ℕ) (linked : Bool) (more before credits : List ℕ) (from to active holds r : ℕ) (counts best counts′ best′ : List ℕ) (s : List ℕ)
-    (links : (u i : ℕ) → g .links u i ≡ linksOfTables before linked more u i) (held : (i : ℕ) → g .holds i b ≡ hasBit holds i) (earned : (i : ℕ) → g .credit i ≡ getD credits i 0)
+    (links : (u i : ℕ) → g .links u i ≡ linksOfTables before linked more u i) (held : (i : ℕ) → g .holds i b ≡ hasBit holds i) (earned : (i : ℕ) → g .credit i ≡ creditIn credits i) (long : length credits ≡ 61)
     (small : active < 2 ^ 61) (short : length s ≤ 4096) (row : Row g s from active counts best) (st : Stepped linked more before credits from to active holds counts best counts′ best′ r) where
   abbrev here : ℕ → ℕ → Bool
   here i = hasBit (arriving before active i)
@@ -123,26 +122,38 @@ module _ (g : Graph) (bounded : Bounded g) (b : ℕ) (linked : Bool) (more befor
   abbrev most : ℕ → ℕ
   most i = mostOf (arriving before active i) (cell best from)
 
-  most-low : (i : ℕ) → most i ≤ 9 * length s
+  most-low : (i : ℕ) → most i ≤ 18 * length s
   most-low i =
-      fold-keeps 0 max (λ (a : ℕ). a ≤ 9 * length s) zero-le (λ a c. max-le a c (9 * length s)) (here i) (cell best from) 61
+      fold-keeps 0 max (λ (a : ℕ). a ≤ 18 * length s) zero-le (λ a c. max-le a c (18 * length s)) (here i) (cell best from) 61
       (λ u l e. row .low u (here-parts i u e .1))
 
-  best-here : (i : ℕ) → hasBit r i ≡ true → cell best′ to i ≡ most i + g .credit i
+  -- its own, raised
+  abbrev own : ℕ → ℕ
+  own i = getD credits i 9
+
+  own-low : (i : ℕ) → own i ≤ 18
+  own-low i = raised-low (own i) (subst (λ (c : ℤ). natAbs c ≤ 9) (earned i) (bounded .credits i))
+
+  best-here : (i : ℕ) → hasBit r i ≡ true → cell best′ to i ≡ most i + own i
   best-here i e =
-      let c = bounded .credits i in
       let m = most-low i in
-      let q = earned i in
-      st .marked .made i e ∙ mod-eq-of-lt (omega arith) ∙ ap (λ (x : ℕ). most i + x) (sym q)
+      let c = own-low i in
+      let q : getD credits i 0 ≡ own i = within-any credits i 0 9 (omega (arith, member-below 61 r i (st .small) e)) in
+      st .marked .made i e ∙ ap (λ (x : ℕ). (most i + x) % 2 ^ 32) q ∙ mod-eq-of-lt (omega arith)
+
+  -- one raised credit more, for one letter more
+  raised-on : (i : ℕ) → hasBit r i ≡ true → lowered (length (s ++ (b ∷ []))) (cell best′ to i) ≡ lowered (length s) (most i) +ℤ g .credit i
+  raised-on i e =
+      ap₂ lowered (length-append s (b ∷ [])) (best-here i e) ∙ sym (lowered-adds (length s) 1 (most i) (own i)) ∙ ap (λ (c : ℤ). lowered (length s) (most i) +ℤ c) (sym (earned i))
 
   gathered : (t : List ℕ) (i : ℕ) → hasBit r i ≡ true
-      → added (cell best′ to i) (bestFrom g i t) ≡ mostIf (here i) (λ u. added (cell best from u) (added (g .credit i) (bestFrom g i t))) 61
+      → added (lowered (length (s ++ (b ∷ []))) (cell best′ to i)) (bestFrom g i t) ≡ bestOf (arriving before active i) (λ u. added (lowered (length s) (cell best from u)) (added (g .credit i) (bestFrom g i t)))
   gathered t i e =
       let m = arriving before active i in
       let some = ltb-true 0 m (and-parts (hasBit holds i) (ltb 0 m) (sym (st .states i) ∙ e) .1) in
       let u = least-trailing 61 m some (lt-of-le-of-lt (and-le-r (getD before i 0) active) small) in
-      ap (λ (x : ℕ). added x (bestFrom g i t)) (best-here i e) ∙ sym (added-twice (most i) (g .credit i) (bestFrom g i t))
-      ∙ sym (most-added (here i) (cell best from) 61 (trailingZeros 61 m) (u .0) (u .1 .here) (added (g .credit i) (bestFrom g i t)))
+      ap (λ (c : ℤ). added c (bestFrom g i t)) (raised-on i e) ∙ sym (added-twice (lowered (length s) (most i)) (g .credit i) (bestFrom g i t))
+      ∙ sym (best-added (here i) (cell best from) 61 (trailingZeros 61 m) (u .0) (u .1 .here) (length s) (added (g .credit i) (bestFrom g i t)))
 
   pub row-on : Row g (s ++ (b ∷ [])) to r counts′ best′
   row-on = record {
@@ -158,13 +169,13 @@ module _ (g : Graph) (bounded : Bounded g) (b : ℕ) (linked : Bool) (more befor
         (λ u. mul-zero (cell counts from u)) (λ u. mul-add (cell counts from u)) (λ u i. g .links u i * countFrom g i t)))
         ∙ row .counted (b ∷ t) ∙ ap (λ (x : List ℕ). min (readings g x) (2 ^ 63)) (sym (append-assoc s (b ∷ []) t));
     marked = λ t.
-        fold-same 0 max (hasBit r) (hasBit r) (λ i. added (cell best′ to i) (bestFrom g i t)) (λ i. mostIf (here i) (λ u. added (cell best from u) (added (g .credit i) (bestFrom g i t))) 61) 61
-        (λ i l. refl) (λ i l. gathered t i)
-        ∙ sym (onward g bounded b before active holds r follows held (st .states) 0 max max-none max-comm max-assoc (λ u x. added (cell best from u) x) (λ u. refl)
-        (λ u. added-max (cell best from u)) (λ u i. added (g .credit i) (bestFrom g i t)))
+        fold-same noReading better (hasBit r) (hasBit r) (λ i. added (lowered (length (s ++ (b ∷ []))) (cell best′ to i)) (bestFrom g i t))
+        (λ i. bestOf (arriving before active i) (λ u. added (lowered (length s) (cell best from u)) (added (g .credit i) (bestFrom g i t)))) 61 (λ i l. refl) (λ i l. gathered t i)
+        ∙ sym (onward g bounded b before active holds r follows held (st .states) noReading better better-none better-comm better-assoc (λ u x. added (lowered (length s) (cell best from u)) x) (λ u. refl)
+        (λ u. added-better (lowered (length s) (cell best from u))) (λ u i. added (g .credit i) (bestFrom g i t)))
         ∙ row .marked (b ∷ t) ∙ ap (bestFrom g 0) (sym (append-assoc s (b ∷ []) t));
     low = λ i e.
-        let c = bounded .credits i in
+        let c = own-low i in
         let m = most-low i in
         omega (arith, best-here i e, length-append s (b ∷ []));
   }
@@ -174,41 +185,64 @@ pub row-stop : (g : Graph) (s t : List ℕ) (from active : ℕ) (counts best : L
 row-stop g s t from active counts best z row = record {
   counted = λ q. ap (λ (x : ℕ). min x (2 ^ 63)) (none 0 _+_ (λ u. cell counts from u * countFrom g u q) (λ u. cell counts from u * countFrom g u (t ++ q)))
       ∙ row .counted (t ++ q) ∙ ap (λ (x : List ℕ). min (readings g x) (2 ^ 63)) (sym (append-assoc s t q));
-  marked = λ q. none 0 max (λ u. added (cell best from u) (bestFrom g u q)) (λ u. added (cell best from u) (bestFrom g u (t ++ q)))
+  marked = λ q. none noReading better (λ u. added (lowered (length (s ++ t)) (cell best from u)) (bestFrom g u q)) (λ u. added (lowered (length s) (cell best from u)) (bestFrom g u (t ++ q)))
       ∙ row .marked (t ++ q) ∙ ap (bestFrom g 0) (sym (append-assoc s t q));
   low = λ u e. absurd (true≢false (sym e ∙ ap (λ (m : ℕ). hasBit m u) z ∙ has-none u));
 }
   where
-    none : (n : ℕ) (join : ℕ → ℕ → ℕ) (f h : ℕ → ℕ) → foldIf n join (hasBit active) f 61 ≡ foldIf n join (hasBit active) h 61
+    none : {A : Type 0} (n : A) (join : A → A → A) (f h : ℕ → A) → foldIf n join (hasBit active) f 61 ≡ foldIf n join (hasBit active) h 61
     none n join f h = walk-end n join f 61 active z ∙ sym (walk-end n join h 61 active z)
 
 -- at the end the possible states at which a reading may end are counted
-module _ (g : Graph) (s : List ℕ) (from active lasts : ℕ) (counts best : List ℕ) (last : (u : ℕ) → g .last u ≡ hasBit lasts u) (row : Row g s from active counts best) where
-  pub row-end : Answered g s (countOf (bitAnd active lasts) (cell counts from)) (mostOf (bitAnd active lasts) (cell best from))
+module _ (g : Graph) (s : List ℕ) (from active lasts : ℕ) (counts best : List ℕ) (last : (u : ℕ) → g .last u ≡ hasBit lasts u) (small : active < 2 ^ 61) (row : Row g s from active counts best) where
+  abbrev ending : ℕ
+  ending = bitAnd active lasts
+
+  abbrev count : ℕ
+  count = countOf ending (cell counts from)
+
+  abbrev greatest : ℕ
+  greatest = mostOf ending (cell best from)
+
+  both : (u : ℕ) → hasBit ending u ≡ (hasBit active u && g .last u)
+  both u = has-and active lasts u ∙ ap (λ (x : Bool). hasBit active u && x) (sym (last u))
+
+  both-parts : (u : ℕ) → hasBit ending u ≡ true → (hasBit active u ≡ true) × (g .last u ≡ true)
+  both-parts u e = and-parts (hasBit active u) (g .last u) (sym (both u) ∙ e)
+
+  -- for both folds: where a reading may not end there is nothing to join
+  at-end : {A : Type 0} (none : A) (join : A → A → A) → ((a : A) → join a none ≡ a) → (act : ℕ → A → A) → ((u : ℕ) → act u none ≡ none) → (here : A)
+      → foldIf none join (hasBit active) (λ u. act u (if g .last u then here else none)) 61 ≡ foldIf none join (hasBit ending) (λ u. act u here) 61
+  at-end none join right act z here =
+      fold-where none join right (hasBit active) (g .last) (hasBit ending) (λ u. act u (if g .last u then here else none)) (λ u. act u here) both
+      (λ u e. ap (act u) (if-yes here none (g .last u) (both-parts u e .1))) (λ u e. ap (act u) (if-no here none (g .last u) e) ∙ z u) 61
+
+  counted-end : count ≡ min (readings g s) (2 ^ 63)
+  counted-end =
+      ap (λ (x : ℕ). min x (2 ^ 63))
+      (fold-same 0 _+_ (hasBit ending) (hasBit ending) (cell counts from) (λ u. cell counts from u * 1) 61 (λ u l. refl) (λ u l e. sym (mul-one (cell counts from u)))
+      ∙ sym (at-end 0 _+_ add-zero (λ u x. cell counts from u * x) (λ u. mul-zero (cell counts from u)) 1))
+      ∙ row .counted [] ∙ ap (λ (x : List ℕ). min (readings g x) (2 ^ 63)) (append-nil s)
+
+  best-end : 0 < ending → bestFrom g 0 s ≡ earns (lowered (length s) greatest)
+  best-end some =
+      let u = least-trailing 61 ending some (lt-of-le-of-lt (and-le-l active lasts) small) in
+      sym (row .marked [] ∙ ap (bestFrom g 0) (append-nil s))
+      ∙ at-end noReading better better-none (λ u x. added (lowered (length s) (cell best from u)) x) (λ u. refl) (earns (pos 0))
+      ∙ best-added (hasBit ending) (cell best from) 61 (trailingZeros 61 ending) (u .0) (u .1 .here) (length s) (earns (pos 0))
+      ∙ ap earns (+ℤ-idr (lowered (length s) greatest))
+
+  -- a count that is not 0 has a state that is counted
+  some-end : (count ≡ 0 → ⊥) → 0 < ending
+  some-end d = ⊎-elim (λ l. let z : ending ≡ 0 = omega arith in absurd (d (ap (λ (x : ℕ). min x (2 ^ 63)) (walk-end 0 _+_ (cell counts from) 61 ending z)))) (λ l. l) (le-or-lt ending 0)
+
+  pub row-end : Summed g s count greatest
   row-end = record {
-    counts = ap (λ (x : ℕ). min x (2 ^ 63))
-        (sym (fold-where 0 _+_ add-zero (hasBit active) (g .last) (hasBit m) (λ u. cell counts from u * ends u) (cell counts from) both
-        (λ u e. ap (λ (x : ℕ). cell counts from u * x) (yes u e) ∙ mul-one (cell counts from u))
-        (λ u e. ap (λ (x : ℕ). cell counts from u * x) (no u e) ∙ mul-zero (cell counts from u)) 61))
-        ∙ row .counted [] ∙ ap (λ (x : List ℕ). min (readings g x) (2 ^ 63)) (append-nil s);
-    marks = sym (most-less (hasBit m) (cell best from) 61)
-        ∙ ap (λ (x : ℕ). x - 1)
-        (sym (fold-where 0 max max-none (hasBit active) (g .last) (hasBit m) (λ u. added (cell best from u) (ends u)) (λ u. suc (cell best from u)) both
-        (λ u e. ap (added (cell best from u)) (yes u e) ∙ ap suc (add-zero (cell best from u))) (λ u e. ap (added (cell best from u)) (no u e)) 61)
-        ∙ row .marked [] ∙ ap (bestFrom g 0) (append-nil s));
+    answered = record {
+      counts = counted-end;
+      marks = by-test (eqb count 0)
+          (λ e. let z = eqb-true count 0 e in if-yes (pos 0) (lowered (length s) greatest) (eqb count 0) e ∙ sym (mark-none g s (omega (arith, counted-end))))
+          (λ e. if-no (pos 0) (lowered (length s) greatest) (eqb count 0) e ∙ sym (ap markOf (best-end (some-end (λ z. false≢true (sym e ∙ eq-eqb count 0 z))))));
+    };
+    low = fold-keeps 0 max (λ (a : ℕ). a ≤ 18 * length s) zero-le (λ a c. max-le a c (18 * length s)) (hasBit ending) (cell best from) 61 (λ u l e. row .low u (both-parts u e .0));
   }
-    where
-      m : ℕ
-      m = bitAnd active lasts
-
-      ends : ℕ → ℕ
-      ends u = if g .last u then 1 else 0
-
-      both : (u : ℕ) → hasBit m u ≡ (hasBit active u && g .last u)
-      both u = has-and active lasts u ∙ ap (λ (x : Bool). hasBit active u && x) (sym (last u))
-
-      yes : (u : ℕ) → hasBit m u ≡ true → ends u ≡ 1
-      yes u e = if-yes 1 0 (g .last u) (and-parts (hasBit active u) (g .last u) (sym (both u) ∙ e) .1)
-
-      no : (u : ℕ) → g .last u ≡ false → ends u ≡ 0
-      no u = if-no 1 0 (g .last u)

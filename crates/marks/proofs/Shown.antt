@@ -13,7 +13,7 @@ use Rattle.bits.specs.Bits.{hasBit}
 use Rattle.letters.specs.LetterSet.{hasLetter}
 use Rattle.letters.specs.LetterSet.{setAt}
 use Rattle.graph.specs.Graph.{several, Bounded, SingleLinks}
-use Rattle.graph.specs.Built.{graphOfBuilt}
+use Rattle.graph.specs.Built.{creditIn, graphOfBuilt}
 use Rattle.graph.specs.declared.Built.{Built}
 use Rattle.graph.proofs.Bounds.{below}
 use Rattle.graph.proofs.Links.{not-several, built-next}
@@ -47,7 +47,7 @@ module _ (b : Built) (more : List ℕ) (bounded : Bounded (graphOfBuilt b more))
         ∙ same-number (hasBit (getD (b .follow) u 0) i) (b .doubled) (getD more (61 * u + i) 0) (λ e. single e u i)) k;
     last = λ u. hasBit (b .lasts) u;
     holds = λ i c. (held c i ∙ under i (hasLetter (setAt (b .letters) i) c) (λ e. position-of (graphOfBuilt b more) i (bounded .holds-at i c e) .1)) k;
-    credit = λ i. getD (b .credits) i 0;
+    credit = creditIn (b .credits);
   }
     where
       under : (u : ℕ) (t : Bool) → (t ≡ true → u ≤ b .positions) → (ltb u (b .positions + 1) && t) ≡ t

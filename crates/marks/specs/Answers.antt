@@ -4,18 +4,26 @@ use mathlib.Core.Path.{_≡_}
 use mathlib.Core.Bool.{Bool, true}
 use mathlib.Core.List.{List, _++_}
 use Prim.Native.Nat.{ℕ, _*_, _^_, _≤_, min}
+use lib.Dec.{eqb}
+use lib.IntN.{ℤ, pos}
 use lib.ListN.{length, getD}
 use Rattle.basics.specs.Choice.{if_then_else_}
+use Rattle.basics.specs.Folds.{foldIf}
 use Rattle.bits.specs.Bits.{hasBit}
 use Rattle.graph.specs.Graph.{Graph, Bounded}
-use Rattle.graph.specs.Readings.{countFrom, readings, added, bestFrom, mark}
-use Rattle.frontier.specs.Rows.{cell, countOf, mostOf, weight}
+use Rattle.graph.specs.Built.{lowered, creditIn}
+use Rattle.graph.specs.Readings.{countFrom, readings, Best, noReading, better, added, bestFrom, mark}
+use Rattle.frontier.specs.Rows.{cell, countOf, weight}
 
--- after the letters s, in the graph g
+-- over the members of a set: the best
+abbrev pub bestOf : ℕ → (ℕ → Best) → Best
+bestOf m row = foldIf noReading better (hasBit m) row 61
+
+-- after the letters s, in the graph g. The credits of the row are sums of as many credits, each raised by 9.
 pub record Row (g : Graph) (s : List ℕ) (from active : ℕ) (counts best : List ℕ) : Type 0 where
   pub counted : (t : List ℕ) → countOf active (λ u. cell counts from u * countFrom g u t) ≡ min (readings g (s ++ t)) (2 ^ 63)
-  pub marked : (t : List ℕ) → mostOf active (λ u. added (cell best from u) (bestFrom g u t)) ≡ bestFrom g 0 (s ++ t)
-  pub low : (u : ℕ) → hasBit active u ≡ true → cell best from u ≤ 9 * length s
+  pub marked : (t : List ℕ) → bestOf active (λ u. added (lowered (length s) (cell best from u)) (bestFrom g u t)) ≡ bestFrom g 0 (s ++ t)
+  pub low : (u : ℕ) → hasBit active u ≡ true → cell best from u ≤ 18 * length s
 
 -- how many links lead from state u to position i: none where u is not before it
 abbrev pub linksOfTables : List ℕ → Bool → List ℕ → ℕ → ℕ → ℕ
@@ -29,15 +37,24 @@ graphOfTables positions holders before lasts credits linked more = record {
   links = linksOfTables before linked more;
   last = λ u. hasBit lasts u;
   holds = λ i b. hasBit (getD holders b 0) i;
-  credit = λ i. getD credits i 0;
+  credit = creditIn credits;
 }
 
 -- [Counts] [Marks] the number of readings, 2 ^ 63 where it is that or more, and the mark
-pub record Answered (g : Graph) (s : List ℕ) (count most : ℕ) : Type 0 where
+pub record Answered (g : Graph) (s : List ℕ) (count : ℕ) (given : ℤ) : Type 0 where
   pub counts : count ≡ min (readings g s) (2 ^ 63)
-  pub marks : most ≡ mark g s
+  pub marks : given ≡ mark g s
 
--- the same in the graph of the tables: how many positions it has plays no part, as long as it is within the bounds
-abbrev pub TablesAnswered : List ℕ → List ℕ → ℕ → List ℕ → Bool → List ℕ → List ℕ → ℕ → ℕ → Type 0
-TablesAnswered holders before lasts credits linked more s count most = (positions : ℕ) → Bounded (graphOfTables positions holders before lasts credits linked more)
-    → Answered (graphOfTables positions holders before lasts credits linked more) s count most
+-- the mark by the count of readings and the greatest of their sums, which was raised by 9 for each letter
+abbrev pub markOfSum : ℕ → ℕ → ℕ → ℤ
+markOfSum count most letters = if eqb count 0 then pos 0 else lowered letters most
+
+-- what the tables' rows come to, from which the mark follows, and which is no more than 18 for each letter
+pub record Summed (g : Graph) (s : List ℕ) (count most : ℕ) : Type 0 where
+  pub answered : Answered g s count (markOfSum count most (length s))
+  pub low : most ≤ 18 * length s
+
+-- in the graph of the tables: how many positions it has plays no part, as long as it is within the bounds
+abbrev pub TablesSummed : List ℕ → List ℕ → ℕ → List ℕ → Bool → List ℕ → List ℕ → ℕ → ℕ → Type 0
+TablesSummed holders before lasts credits linked more s count most = (positions : ℕ) → Bounded (graphOfTables positions holders before lasts credits linked more)
+    → Summed (graphOfTables positions holders before lasts credits linked more) s count most

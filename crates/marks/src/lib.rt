@@ -7,14 +7,14 @@ ghost use Prim.Native.Nat.{ℕ, _<_, _≤_, _^_};
 ghost use lib.ListN.{length, getD};
 ghost use Rattle.graph.specs.Graph.{Bounded, SingleLinks};
 ghost use Rattle.graph.specs.Built.{graphOfBuilt};
-ghost use Rattle.marks.specs.Answers.{Answered, TablesAnswered};
+ghost use Rattle.marks.specs.Answers.{markOfSum, Answered, TablesSummed};
 
 // What marking gives: the refusal, or 0 and the number of readings, 2^63 where it is that or more, and the most credit that one
-// earns, 0 where there is none. By a built pattern no answer is refused.
+// earns, which may be below zero, 0 where there is none. By a built pattern no answer is refused.
 pub struct Marked {
     pub refusal: u8,
     pub count: u64,
-    pub mark: u32,
+    pub mark: i32,
 }
 
 // The number of readings of an answer and its mark. A byte that is no letter is held by no position. `more` is the table of the
@@ -41,11 +41,23 @@ pub fn mark(b: Built, more: &[u8], answer: &[u8]) -> Marked
         b.doubled,
         more,
     );
+    let mark = mark_of_sum(sum, answer.len());
     Marked {
         refusal: 0,
         count: sum.count,
-        mark: sum.most,
+        mark: mark,
     }
+}
+
+// The mark of a greatest sum of as many credits as there are letters, each raised by 9; 0 where there is no reading.
+fn mark_of_sum(sum: Sum, letters: usize) -> i32
+    requires { ⌜ (sum .most ≤ 73728) × (letters ≤ 4096) ⌝ }
+    ensures { λ r. ⌜ r ≡ markOfSum (sum .count) (sum .most) letters ⌝ }
+{
+    if sum.count == 0 {
+        return 0;
+    }
+    sum.most as i32 - (9 * letters) as i32
 }
 
 // The answer, letter by letter, until no state is possible. The rows are at 0 and at 61, in turn.
@@ -60,8 +72,8 @@ fn run(
     linked: bool,
     more: &[u8],
 ) -> Sum
-    requires { ⌜ (122 ≤ length (now counts)) × (122 ≤ length (now best)) × (length (now answer) ≤ 4096) × ((b : ℕ) → getD (now holders) b 0 < 2 ^ 61) × (3721 ≤ length (now more)) ⌝ }
-    ensures { λ r. ⌜ TablesAnswered (now (holders .entry)) (now (before .entry)) lasts (now (credits .entry)) linked (now (more .entry)) (now (answer .entry)) (r .count) (r .most) ⌝ }
+    requires { ⌜ (122 ≤ length (now counts)) × (122 ≤ length (now best)) × (length (now answer) ≤ 4096) × ((b : ℕ) → getD (now holders) b 0 < 2 ^ 61) × (length (now credits) ≡ 61) × (3721 ≤ length (now more)) ⌝ }
+    ensures { λ r. ⌜ TablesSummed (now (holders .entry)) (now (before .entry)) lasts (now (credits .entry)) linked (now (more .entry)) (now (answer .entry)) (r .count) (r .most) ⌝ }
 {
     counts[0] = 1;
     best[0] = 0;

@@ -4,16 +4,18 @@ use mathlib.Core.Path.{_≡_, refl, sym, ap, _∙_}
 use mathlib.Core.Logic.{_⊎_, ⊎-elim}
 use mathlib.Core.Bool.{and-false, false}
 use mathlib.Core.List.{List, [], _∷_, _++_}
-use Prim.Native.Nat.{ℕ, zero, suc, _≤_, _<_, zero-le}
+use Prim.Native.Nat.{ℕ, zero, suc, _≤_, _<_}
 use native.Mathlib.Omega.{arith}
+use lib.IntN.{pos}
 use lib.ListN.{length, getD, set, replicate, length-append}
 use lib.Seq.{take-all, take-append-le, getD-set-same, getD-set-other, getD-at}
 use Rattle.basics.proofs.Tests.{by-equal, le-or-lt}
-use Rattle.basics.proofs.Lists.{alike, last-other, set-keeps, zeros}
+use Rattle.basics.proofs.Lists.{alike, last-other, set-keeps}
 use Rattle.alphabet.specs.Alphabet.{isLetter}
 use Rattle.letters.specs.LetterSet.{hasLetter}
 use Rattle.letters.specs.declared.LetterSet.{LetterSet}
 use Rattle.set_table.specs.Table.{setIn, Writes}
+use Rattle.graph.specs.Built.{lowered, creditIn}
 use Rattle.pattern.specs.Parts.{Atom, holds}
 use Rattle.pattern.specs.Grammar.{noAtom}
 use Rattle.parsed.specs.Tables.{atomOf, Stored}
@@ -24,11 +26,11 @@ atom-none : (i : ℕ) → atomOf [] i ≡ noAtom
 atom-none zero = refl
 atom-none (suc i) = refl
 
-pub none-stored : (sets : List ℕ) → ((i c : ℕ) → hasLetter (setIn sets i) c ≡ false) → Stored [] sets (replicate 61 0)
+pub none-stored : (sets : List ℕ) → ((i c : ℕ) → hasLetter (setIn sets i) c ≡ false) → Stored [] sets (replicate 61 9)
 none-stored sets empty = record {
   has = λ i c. empty i c ∙ sym (ap (λ (a : Atom). holds a c) (atom-none i) ∙ and-false (isLetter c));
-  credit = λ i. zeros 61 i ∙ sym (ap (λ (a : Atom). a .credit) (atom-none i));
-  small = alike (λ (n : ℕ). n ≤ 9) 61 0 0 zero-le zero-le;
+  credit = λ i. alike (λ (n : ℕ). lowered 1 n ≡ pos 0) 61 9 9 refl refl i ∙ sym (ap (λ (a : Atom). a .credit) (atom-none i));
+  small = alike (λ (n : ℕ). n ≤ 18) 61 9 9 (omega arith) (omega arith);
 }
 
 -- ---- one atom more
@@ -66,7 +68,7 @@ pub record Full (k : ℕ) (sets credits sets′ credits′ : List ℕ) : Type 0 
 
 pub one-stored : (al : List Atom) (x : Atom) (k : ℕ) (s : LetterSet) (credit : ℕ) (sets credits sets′ credits′ : List ℕ) → length credits ≡ 61 → k ≡ suc (length al)
     → Filled k s credit sets credits sets′ credits′ ⊎ Full k sets credits sets′ credits′
-    → ((c : ℕ) → hasLetter s c ≡ holds x c) → credit ≡ x .credit → credit ≤ 9 → Stored al sets credits → Stored (al ++ (x ∷ [])) sets′ credits′
+    → ((c : ℕ) → hasLetter s c ≡ holds x c) → lowered 1 credit ≡ x .credit → credit ≤ 18 → Stored al sets credits → Stored (al ++ (x ∷ [])) sets′ credits′
 one-stored al x k s credit sets credits sets′ credits′ long is put held earns low st = ⊎-elim stored kept put
   where
     stored : Filled k s credit sets credits sets′ credits′ → Stored (al ++ (x ∷ [])) sets′ credits′
@@ -77,11 +79,11 @@ one-stored al x k s credit sets credits sets′ credits′ long is put held earn
               (λ j d. ap (λ (t : LetterSet). hasLetter t c) (w .letters .others j (λ z. d (sym z ∙ is))))
               (λ _. ap (λ (j : ℕ). hasLetter (setIn sets′ j) c) (sym is) ∙ ap (λ (t : LetterSet). hasLetter t c) (w .letters .here) ∙ held c)
               (λ h. absurd (omega arith)) (λ j. st .has j c) i;
-          credit = λ i. one-more (λ y. y .credit) (λ j. getD credits j 0) (λ j. getD credits′ j 0) al x
-              (λ j d. ap (λ (l : List ℕ). getD l j 0) (w .numbers) ∙ getD-set-other credits k j credit 0 (λ z. d (z ∙ is)))
-              (λ _. ap (λ (j : ℕ). getD credits′ j 0) (sym is) ∙ ap (λ (l : List ℕ). getD l k 0) (w .numbers) ∙ getD-set-same credits k credit 0 (omega arith) ∙ earns)
+          credit = λ i. one-more (λ y. y .credit) (creditIn credits) (creditIn credits′) al x
+              (λ j d. ap (λ (l : List ℕ). creditIn l j) (w .numbers) ∙ ap (lowered 1) (getD-set-other credits k j credit 9 (λ z. d (z ∙ is))))
+              (λ _. ap (creditIn credits′) (sym is) ∙ ap (λ (l : List ℕ). creditIn l k) (w .numbers) ∙ ap (lowered 1) (getD-set-same credits k credit 9 (omega arith)) ∙ earns)
               (λ h. absurd (omega arith)) (st .credit) i;
-          small = λ i. omega (arith, ap (λ (l : List ℕ). getD l i 0) (w .numbers), set-keeps (λ (n : ℕ). n ≤ 9) credits k credit 0 low (st .small) i);
+          small = λ i. omega (arith, ap (λ (l : List ℕ). getD l i 9) (w .numbers), set-keeps (λ (n : ℕ). n ≤ 18) credits k credit 9 low (st .small) i);
         }
 
     kept : Full k sets credits sets′ credits′ → Stored (al ++ (x ∷ [])) sets′ credits′
@@ -91,8 +93,8 @@ one-stored al x k s credit sets credits sets′ credits′ long is put held earn
           has = λ i c. one-more (λ y. holds y c) (λ j. hasLetter (setIn sets j) c) (λ j. hasLetter (setIn sets′ j) c) al x
               (λ j d. ap (λ (l : List ℕ). hasLetter (setIn l j) c) (w .letters)) (λ h. absurd (omega arith))
               (λ h j. ap (λ (l : List ℕ). hasLetter (setIn l j) c) (w .letters)) (λ j. st .has j c) i;
-          credit = λ i. one-more (λ y. y .credit) (λ j. getD credits j 0) (λ j. getD credits′ j 0) al x
-              (λ j d. ap (λ (l : List ℕ). getD l j 0) (w .numbers)) (λ h. absurd (omega arith))
-              (λ h j. ap (λ (l : List ℕ). getD l j 0) (w .numbers)) (st .credit) i;
-          small = λ i. omega (arith, ap (λ (l : List ℕ). getD l i 0) (w .numbers), st .small i);
+          credit = λ i. one-more (λ y. y .credit) (creditIn credits) (creditIn credits′) al x
+              (λ j d. ap (λ (l : List ℕ). creditIn l j) (w .numbers)) (λ h. absurd (omega arith))
+              (λ h j. ap (λ (l : List ℕ). creditIn l j) (w .numbers)) (st .credit) i;
+          small = λ i. omega (arith, ap (λ (l : List ℕ). getD l i 9) (w .numbers), st .small i);
         }

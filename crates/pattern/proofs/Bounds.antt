@@ -5,6 +5,7 @@ use mathlib.Core.Bool.{true, and-false, false≢true}
 use Prim.Native.Nat.{ℕ, zero, suc, _≤_, zero-le}
 use native.Mathlib.Omega.{arith}
 use lib.Dec.{leb}
+use lib.IntN.{natAbs}
 use lib.ListN.{List·getD-eq-default}
 use borrow.Author.Tests.{le-leb}
 use Rattle.basics.proofs.Tests.{and-parts, and-of, le-or-lt}
@@ -34,7 +35,7 @@ module _ (p : Part) where
       ⊎-elim (λ h. absurd (false≢true (sym (ap (λ (a : Atom). holds a b) (List·getD-eq-default (atoms p) noAtom {n = i} h) ∙ and-false (isLetter b)) ∙ e)))
       (λ h. omega arith) (le-or-lt (positions p) i)
 
-  pub graph-bounded : positions p ≤ 60 → ((i : ℕ) → atomAt p i .credit ≤ 9) → Bounded (graphOf p)
+  pub graph-bounded : positions p ≤ 60 → ((i : ℕ) → natAbs (atomAt p i .credit) ≤ 9) → Bounded (graphOf p)
   graph-bounded few small = record {
     few = few;
     next-from = λ u i e. next-within u i e .0;

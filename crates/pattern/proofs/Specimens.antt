@@ -7,6 +7,8 @@ use Prim.Native.Nat.{ℕ}
 use Prim.Native.Char.{code}
 use Prim.Native.String.{String}
 use lib.Dec.{eqb}
+use lib.IntN.{ℤ, pos, negℤ}
+use lib.Signed.{leZ}
 use lib.ListN.{replicate}
 use Rattle.basics.specs.Choice.{if_then_else_}
 use Rattle.basics.specs.Bytes.{codes}
@@ -23,17 +25,21 @@ record Row : Type 0 where
   answer : List ℕ
   refusal : ℕ
   count : ℕ
-  credit : ℕ
+  credit : ℤ
 
 abbrev accepts : String → String → ℕ → ℕ → Row
-accepts p a c m = record { pattern = codes p; answer = codes a; refusal = 0; count = c; credit = m }
+accepts p a c m = record { pattern = codes p; answer = codes a; refusal = 0; count = c; credit = pos m }
+
+-- the mark is below zero
+abbrev loses : String → String → ℕ → ℕ → Row
+loses p a c m = record { pattern = codes p; answer = codes a; refusal = 0; count = c; credit = negℤ (pos m) }
 
 abbrev declines : String → ℕ → Row
-declines p n = record { pattern = codes p; answer = []; refusal = n; count = 0; credit = 0 }
+declines p n = record { pattern = codes p; answer = []; refusal = n; count = 0; credit = pos 0 }
 
 -- k times `.`, then p
 abbrev long : ℕ → String → ℕ → Row
-long k p n = record { pattern = replicate k (code ".") ++ codes p; answer = []; refusal = n; count = 0; credit = 0 }
+long k p n = record { pattern = replicate k (code ".") ++ codes p; answer = []; refusal = n; count = 0; credit = pos 0 }
 
 -- those with a star on the page of rules
 abbrev starred : List Row
@@ -55,6 +61,13 @@ starred =
     ∷ accepts "a=2b|ab=3" "ab" 2 3
     ∷ accepts "(a=1|a)*" "aaa" 8 3
     ∷ accepts "a?" "" 1 0
+    ∷ loses "a=-2" "a" 1 2
+    ∷ loses "a=-2|a=-1" "a" 2 1
+    ∷ accepts "(a=-1|a=1)*" "aa" 4 2
+    ∷ accepts "(a=-1b=1|ab=-2)*" "abab" 4 0
+    ∷ accepts "a=-5*" "" 1 0
+    ∷ accepts "a=-5" "b" 0 0
+    ∷ accepts "a=1-" "a-" 1 1
     ∷ accepts "[^ -~]" "é" 1 0
     ∷ accepts "[^ -~]" "a" 0 0
     ∷ accepts "é=1t(é|e=1)" "été" 1 1
@@ -74,6 +87,12 @@ starred =
     ∷ declines "()" 5
     ∷ declines "a**" 5
     ∷ declines "a)" 5
+    ∷ declines "a=-0" 5
+    ∷ declines "a=-" 5
+    ∷ declines "a=--1" 5
+    ∷ declines "a=+1" 5
+    ∷ declines "(a)=-1" 5
+    ∷ declines "a*=-1" 5
     ∷ declines "\u{1f}" 4
     ∷ declines "\u{7f}" 4
     ∷ declines "\u{9f}" 4
@@ -132,6 +151,24 @@ grammar =
     ∷ declines "(a)=1" 5
     ∷ declines "a*=1" 5
     ∷ declines "a=1=2" 5
+    ∷ loses "[ab]=-3" "b" 1 3
+    ∷ loses "\\==-3" "=" 1 3
+    ∷ loses ".=-3" "x" 1 3
+    ∷ loses "a=-9" "a" 1 9
+    ∷ loses "a=-1*" "aa" 1 2
+    ∷ loses "a=-1-" "a-" 1 1
+    ∷ loses "a=-10" "a0" 1 1
+    ∷ accepts "a-=1" "a-" 1 1
+    ∷ loses "-=-1" "-" 1 1
+    ∷ accepts "a=-1b=1" "ab" 1 0
+    ∷ loses "a=-3b=1|a=-1b=-2" "ab" 2 2
+    ∷ loses "(a=-1*)*" "aaa" 4 3
+    ∷ declines "a=-:" 5
+    ∷ declines "a=-/" 5
+    ∷ declines "=-1" 5
+    ∷ declines "a=-1=1" 5
+    ∷ declines "a=1=-1" 5
+    ∷ declines "a=-a" 5
     -- repeats
     ∷ accepts "a+" "" 0 0
     ∷ accepts "a+" "aa" 1 0
@@ -173,13 +210,16 @@ grammar =
     ∷ long 512 "\u{1f}" 3
     ∷ []
 
+abbrev isNumber : ℤ → ℤ → Bool
+isNumber x y = leZ x y && leZ y x
+
 abbrev right : Row → Bool
 right r =
     let p = r .pattern in
     let g = graphOf (patternPart p) in
     let a = r .answer in
     eqb (patternRefusal p) (r .refusal)
-    && (if eqb (patternRefusal p) 0 then eqb (readings g a) (r .count) && eqb (mark g a) (r .credit) else true)
+    && (if eqb (patternRefusal p) 0 then eqb (readings g a) (r .count) && isNumber (mark g a) (r .credit) else true)
 
 abbrev allRight : List Row → Bool
 allRight [] = true

@@ -4,6 +4,7 @@ use mathlib.Core.List.{List, [], _∷_, _++_}
 use Prim.Native.Nat.{ℕ, zero, suc, _+_, _-_, _*_}
 use Prim.Native.Char.{code}
 use lib.Dec.{eqb, leb}
+use lib.IntN.{ℤ, pos, negℤ}
 use lib.ListN.{length, getD, drop}
 use Rattle.basics.specs.Choice.{if_then_else_}
 use Rattle.basics.specs.Bytes.{codes, isIn}
@@ -19,7 +20,7 @@ abbrev pub read : Part → List ℕ → Read
 read p s = record { good = true; part = p; rest = s }
 
 abbrev pub noAtom : Atom
-noAtom = atom false [] 0
+noAtom = atom false [] (pos 0)
 
 abbrev pub broken : Read
 broken = record { good = false; part = letter noAtom; rest = [] }
@@ -73,12 +74,36 @@ itemsFrom (suc f) is s =
 
 -- ---- [Lettered atoms] a letter that is not special, `\` and one that is, `.`, or a class
 
--- [Credits] `=` and one digit from 1 to 9 right after the atom, or none
+-- what reading a credit gives: does the grammar hold, the credit, the bytes after it
+pub record Credit : Type 0 where
+  pub good : Bool
+  pub credit : ℤ
+  pub rest : List ℕ
+
+abbrev pub credit : ℤ → List ℕ → Credit
+credit c s = record { good = true; credit = c; rest = s }
+
+abbrev pub noCredit : Credit
+noCredit = record { good = false; credit = pos 0; rest = [] }
+
+-- [Credits] one digit from 1 to 9
+abbrev pub creditDigit : ℕ → Bool
+creditDigit d = leb (code "1") d && leb d (code "9")
+
+-- [Credits] right after the atom `=` and one such digit, or `=`, `-` and one; without `=` the credit is 0
+abbrev pub readCredit : List ℕ → Credit
+readCredit s =
+    let d = getD s 1 0 in
+    let e = getD s 2 0 in
+    if not (eqb (peek s) (code "=")) then credit (pos 0) s
+    else if creditDigit d then credit (pos (d - code "0")) (drop 2 s)
+    else if eqb d (code "-") && creditDigit e then credit (negℤ (pos (e - code "0"))) (drop 3 s)
+    else noCredit
+
 abbrev pub withCredit : Bool → List Item → List ℕ → Read
 withCredit o is s =
-    let d = getD s 1 0 in
-    if eqb (peek s) (code "=") then (if leb (code "1") d && leb d (code "9") then read (letter (atom o is (d - code "0"))) (drop 2 s) else broken)
-    else read (letter (atom o is 0)) s
+    let c = readCredit s in
+    if c .good then read (letter (atom o is (c .credit))) (c .rest) else broken
 
 -- [Classes] after the `[`
 abbrev pub readClass : List ℕ → Read

@@ -3,6 +3,7 @@ use mathlib.Core.Bool.{Bool, true, false, _&&_, _||_, not}
 use mathlib.Core.List.{List, [], _∷_}
 use Prim.Native.Nat.{ℕ}
 use lib.Dec.{leb}
+use lib.IntN.{ℤ}
 use Rattle.basics.specs.Choice.{if_then_else_}
 use Rattle.alphabet.specs.Alphabet.{isLetter}
 
@@ -14,13 +15,14 @@ pub record Item : Type 0 where
 abbrev pub item : ℕ → ℕ → Item
 item a b = record { lo = a; hi = b }
 
--- [Lettered atoms] the letters that the items name or, with `^`, all others; the credit, 0 where none is written
+-- [Lettered atoms] the letters that the items name or, with `^`, all others; the credit, 0 where none is written, below
+-- zero where points are taken off
 pub record Atom : Type 0 where
   pub others : Bool
   pub items : List Item
-  pub credit : ℕ
+  pub credit : ℤ
 
-abbrev pub atom : Bool → List Item → ℕ → Atom
+abbrev pub atom : Bool → List Item → ℤ → Atom
 atom o is c = record { others = o; items = is; credit = c }
 
 abbrev pub inItems : ℕ → List Item → Bool

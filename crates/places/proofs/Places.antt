@@ -14,12 +14,12 @@ use borrow.Author.Tests.{le-leb, lt-leb, eq-eqb, ne-eqb}
 use Rattle.basics.proofs.Tests.{le-or-lt}
 use Rattle.pattern.specs.Grammar.{peek}
 
--- the first byte from a place on is the one at the place, and the second the one after it
+-- the first byte from a place on is the one at the place, and the others are the first from places after it
 pub peek-drop : (s : List ℕ) (at : ℕ) → peek (drop at s) ≡ getD s at 0
 peek-drop s at = getD-drop at s 0 0 ∙ ap (λ (k : ℕ). getD s k 0) (add-zero at)
 
-pub second-byte : (s : List ℕ) (at : ℕ) → getD (drop at s) 1 0 ≡ peek (drop (at + 1) s)
-second-byte s at = getD-drop at s 1 0 ∙ sym (peek-drop s (at + 1))
+pub later-byte : (s : List ℕ) (at k : ℕ) → getD (drop at s) k 0 ≡ peek (drop (at + k) s)
+later-byte s at k = getD-drop at s k 0 ∙ sym (peek-drop s (at + k))
 
 -- past the end there is nothing
 pub peek-past : (s : List ℕ) (at : ℕ) → length s ≤ at → peek (drop at s) ≡ 0

@@ -8,6 +8,7 @@ use mathlib.Core.Logic.{⊎-elim}
 use Prim.Native.Nat.{ℕ, zero, suc, _+_, _*_, _≤_, _<_}
 use native.Mathlib.Omega.{arith}
 use lib.Dec.{eqb, ltb, leb}
+use lib.IntN.{ℤ, pos, natAbs}
 use lib.ListN.{length, getD, set, replicate}
 use lib.Seq.{take-all, getD-set-same, getD-set-other}
 use borrow.Author.Tests.{lt-ltb, le-ltb, le-leb, ne-eqb, ltb-true}
@@ -21,7 +22,8 @@ use Rattle.letters.specs.declared.LetterSet.{LetterSet}
 use Rattle.set_table.specs.Table.{setIn}
 use Rattle.letters.proofs.Sets.{all-empty}
 use Rattle.graph.specs.Graph.{some, noGraph, Bounded, SingleLinks}
-use Rattle.graph.specs.Built.{graphOfBuilt}
+use Rattle.graph.specs.Built.{lowered, graphOfBuilt}
+use Rattle.graph.proofs.Best.{lowered-low}
 use Rattle.graph.proofs.Links.{of-some, none-of, built-doubled}
 use Rattle.graph.specs.declared.Built.{Built}
 use Rattle.pattern.specs.Parts.{Atom, holds, Part}
@@ -37,13 +39,13 @@ use Rattle.parts.specs.Parsing.{Whole}
 use Rattle.parts.specs.declared.ParsedRows.{ParsedRows}
 
 pub none-shown : (none : LetterSet) → ((c : ℕ) → hasLetter none c ≡ false) → (more : List ℕ)
-    → graphOfBuilt record { positions = 0; follow = replicate 61 0; doubled = false; lasts = 0; letters = replicate 61 none; credits = replicate 61 0 } more ≡ noGraph
+    → graphOfBuilt record { positions = 0; follow = replicate 61 0; doubled = false; lasts = 0; letters = replicate 61 none; credits = replicate 61 9 } more ≡ noGraph
 none-shown none empty more = λ t. record {
   positions = 0;
   links = λ u i. ap (λ (b : Bool). if b then suc (getD more (61 * u + i) 0) else 0) (alike (λ (m : ℕ). hasBit m i ≡ false) 61 0 0 (has-none i) (has-none i) u) t;
   last = λ u. has-none u t;
   holds = λ i c. all-empty 61 none empty i c t;
-  credit = λ i. alike (λ (n : ℕ). n ≡ 0) 61 0 0 refl refl i t;
+  credit = λ i. alike (λ (n : ℕ). lowered 1 n ≡ pos 0) 61 9 9 refl refl i t;
 }
 
 -- an atom of up to 60 is stored
@@ -53,7 +55,7 @@ atom-at x few (suc i) = ap (λ (l : List Atom). getD l i noAtom) (take-all 60 (a
 
 -- so the tables bound the credits
 pub stored-bounded : (x : Part) (sets credits : List ℕ) → Stored (atoms x) sets credits → positions x ≤ 60 → Bounded (graphOf x)
-stored-bounded x sets credits d few = graph-bounded x few (λ i. subst (λ (n : ℕ). n ≤ 9) (d .credit i ∙ ap (λ (a : Atom). a .credit) (atom-at x few i)) (d .small i))
+stored-bounded x sets credits d few = graph-bounded x few (λ i. subst (λ (c : ℤ). natAbs c ≤ 9) (d .credit i ∙ ap (λ (a : Atom). a .credit) (atom-at x few i)) (lowered-low (getD credits i 9) (d .small i)))
 
 -- a guard that a test implies
 guard : (a b : Bool) → (b ≡ true → a ≡ true) → (a && b) ≡ b

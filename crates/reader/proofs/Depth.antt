@@ -6,7 +6,8 @@ use mathlib.Core.List.{List, [], _∷_, _++_}
 use Prim.Native.Nat.{ℕ, zero, suc, _+_, _-_, _*_, _≤_, _<_, max, zero-le}
 use Prim.Native.Char.{code}
 use native.Mathlib.Omega.{arith}
-use lib.Dec.{eqb, leb}
+use lib.Dec.{eqb}
+use lib.IntN.{pos, negℤ}
 use lib.ListN.{length, getD, drop, length-drop}
 use borrow.Author.Tests.{eqb-true}
 use Rattle.basics.specs.Choice.{if_then_else_}
@@ -14,7 +15,7 @@ use Rattle.basics.specs.Bytes.{isIn}
 use Rattle.basics.proofs.Tests.{and-parts, by-test, if-no, if-either}
 use Rattle.graph.proofs.Links.{if-low}
 use Rattle.pattern.specs.Parts.{Item, item, atom, Repeat, optional, star, plus, loops, Part, letter, either, joined, again}
-use Rattle.pattern.specs.Grammar.{Read, read, broken, peek, special, classLetter, classLetterLong, Items, itemsRead, itemsFrom, withCredit, readClass, readLetter, repeated, goesOn, patternFrom, branchFrom, pieceFrom, readPattern, patternPart}
+use Rattle.pattern.specs.Grammar.{Read, read, broken, peek, special, classLetter, classLetterLong, Items, itemsRead, itemsFrom, Credit, credit, noCredit, creditDigit, readCredit, withCredit, readClass, readLetter, repeated, goesOn, patternFrom, branchFrom, pieceFrom, readPattern, patternPart}
 use Rattle.pattern.specs.Positions.{positions, isFirst, isLast, links, linksOf}
 use Rattle.pattern.specs.Refusals.{patternRefusal}
 use Rattle.pattern.proofs.Accepted.{refusal-none}
@@ -86,12 +87,21 @@ items-left (suc f) is s =
     (λ d. if-either P (itemsRead false [] []) (itemsFrom f (is ++ (item (a - 1) (b - 1) ∷ [])) u) (eqb b 0) (λ c. zero-le) (λ c. let l = more (is ++ (item (a - 1) (b - 1) ∷ [])) u in omega arith))
     (λ d. let l = more (is ++ (item (a - 1) (a - 1) ∷ [])) t in omega arith))
 
+credit-rest : (s : List ℕ) → length (readCredit s .rest) ≤ length s
+credit-rest s =
+    let d = getD s 1 0 in
+    let e = getD s 2 0 in
+    let P : Credit → Type 0 = λ c. length (c .rest) ≤ length s in
+    let on = credit (pos (d - code "0")) (drop 2 s) in
+    let off = credit (negℤ (pos (e - code "0"))) (drop 3 s) in
+    let third = if eqb d (code "-") && creditDigit e then off else noCredit in
+    if-either P (credit (pos 0) s) (if creditDigit d then on else third) (not (eqb (peek s) (code "="))) (λ f. omega arith)
+    (λ f. if-either P on third (creditDigit d) (λ h. drop-low 2 s) (λ h. if-either P off noCredit (eqb d (code "-") && creditDigit e) (λ k. drop-low 3 s) (λ k. zero-le)))
+
 credit-left : (o : Bool) (is : List Item) (s : List ℕ) → Left (length s) (withCredit o is s)
 credit-left o is s =
-    let d = getD s 1 0 in
-    let P : Read → Type 0 = Left (length s) in
-    if-either P (if leb (code "1") d && leb d (code "9") then read (letter (atom o is (d - code "0"))) (drop 2 s) else broken) (read (letter (atom o is 0)) s) (eqb (peek s) (code "="))
-    (λ e. if-either P (read (letter (atom o is (d - code "0"))) (drop 2 s)) broken (leb (code "1") d && leb d (code "9")) (λ f. (drop-low 2 s, refl)) (λ f. (zero-le, refl))) (λ e. (omega arith, refl))
+    let c = readCredit s in
+    if-either (Left (length s)) (read (letter (atom o is (c .credit))) (c .rest)) broken (c .good) (λ e. (credit-rest s, refl)) (λ e. (zero-le, refl))
 
 class-left : (s : List ℕ) → Left (length s) (readClass s)
 class-left s =

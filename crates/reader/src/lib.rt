@@ -29,7 +29,7 @@ pub fn read(s: &[u8], more: &mut [u8]) -> ReadPattern
         return refused(4);
     }
     let mut sets = set_table::empty();
-    let mut credits = [0u8; 61];
+    let mut credits = [9u8; 61];
     let p = parts::parse(s, &mut sets, &mut credits, more);
     let part = p.part;
     if !(part.good & (part.at == s.len())) {
@@ -54,7 +54,7 @@ fn refused(refusal: u8) -> ReadPattern
     let none = letters::empty();
     let sets = [none; 61];
     let rows = [0u64; 61];
-    let credits = [0u8; 61];
+    let credits = [9u8; 61];
     let built = Built {
         positions: 0,
         follow: rows,

@@ -1,8 +1,15 @@
 -- The packing is as it stands; the count is stored by the test on the refusal. Assumes nothing.
-use mathlib.Core.Path.{refl}
+use mathlib.Core.Path.{_≡_, ap, _∙_}
 use mathlib.Core.Logic.{inl, inr, ⊎-elim}
-use borrow.Author.Needs.{needs}
+use Prim.Native.Nat.{ℕ, _+_, _*_, _^_}
+use native.Mathlib.Omega.{arith}
+use mir.Facts.{toZ-ofZ}
+use mir.Syntax.{w32}
+use mir.Val.{SFits}
+use Rattle.marking.specs.Packing.{bits32}
+use Rattle.marking.proofs.Packing.{bits-low}
 use Rattle.marking.proofs.Stored.{count-after}
+use borrow.Author.Needs.{needs}
 use Rattle.marking.proofs.marking_mark.Statement.{statement}
 use Rattle.marking.proofs.marking_mark.Tie as tie
 
@@ -15,31 +22,34 @@ cast-result c = search needs
 mul-result : tie.Need-mul-result
 mul-result c = search needs
 
-cast-result-2 : tie.Need-cast-result-2
-cast-result-2 c = search needs
+twos-complement-requires : tie.Need-twos-complement-requires
+twos-complement-requires c κs = search needs
+
+-- the mark is an i32
+fits : (c : tie.After-twos-complement) → SFits w32 (c .before .before .before .before .before .mark-answer .result .mark)
+fits c = search needs
+
+-- and its bits are what was packed
+bits-are : (c : tie.After-twos-complement) → c .twos-complement .result ≡ bits32 (c .before .before .before .before .before .mark-answer .result .mark)
+bits-are c = c .twos-complement .ensures ∙ ap bits32 (toZ-ofZ (fits c))
 
 add-result : tie.Need-add-result
-add-result c = search needs
+add-result c = let m = c .before .before .before .before .before .mark-answer .result in omega (arith, bits-are c, bits-low (m .mark) (fits c .sfits))
 
 returns : tie.Need-returns
 returns c =
-    let a = c .before .before .before .before .before .before .before .args in
-    let m = c .before .before .before .before .mark-answer in
+    let a = c .before .before .before .before .before .before .before .before .args in
+    let m = c .before .before .before .before .before .mark-answer in
+    let last = c .before .before .before .if1 in
     record {
       marked = m .result;
       says = m .ensures;
-      small = search needs;
-      packing = refl;
-      stored = count-after (a .pattern .now) (a .answer .now) (m .result) (a .count .now) (c .before .before .if1 .count) (m .ensures) (⊎-elim (λ w. inl (w .0 .taken, w .1)) (λ w. inr (w .0 .left, w .1)) (c .before .before .if1 .came));
+      small = fits c .sfits;
+      packing = ap (λ (b : ℕ). m .result .refusal * 2 ^ 32 + b) (bits-are c);
+      stored = count-after (a .pattern .now) (a .answer .now) (m .result) (a .count .now) (last .count) (m .ensures) (⊎-elim (λ w. inl (w .0 .taken, w .1)) (λ w. inr (w .0 .left, w .1)) (last .came));
     }
 
 pub marking-mark-spec : {M : Type 1} → statement M
 marking-mark-spec =
     tie.close
-    (tie.spec
-    mark-answer-requires
-    cast-result
-    mul-result
-    cast-result-2
-    add-result
-    returns)
+    (tie.spec mark-answer-requires cast-result mul-result twos-complement-requires add-result returns)

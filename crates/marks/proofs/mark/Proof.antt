@@ -1,13 +1,15 @@
 -- The tables show the pattern's graph, and what holds of the one holds of the other. Assumes nothing.
-use mathlib.Core.Path.{refl, sym, subst}
+use mathlib.Core.Path.{refl, sym, _∙_, subst}
 use Prim.Native.Nat.{ℕ}
 use native.Mathlib.Omega.{arith}
 use mir.Val.{Fits}
+use mir.Facts.{toZ-ofZ}
 use mir.Syntax.{w64}
 use lib.ListN.{getD}
 use Rattle.graph.specs.Graph.{Graph, Bounded}
+use Rattle.graph.specs.Built.{graphOfBuilt}
 use Rattle.graph.proofs.Bounds.{row-below}
-use Rattle.marks.specs.Answers.{Answered}
+use Rattle.marks.specs.Answers.{Summed}
 use Rattle.marks.proofs.Shown.{holders-low, tables-show}
 use borrow.Author.Needs.{needs}
 use Rattle.marks.proofs.mark.Statement.{statement}
@@ -28,22 +30,30 @@ slice-aggregate-run c = search needs
 slice-aggregate-run-2 : tie.Need-slice-aggregate-run-2
 slice-aggregate-run-2 c = search needs
 
+-- what the rows come to, for the pattern's graph
+summed : (c : tie.After-run) → let a = c .before .before .before .before .before .before .before .before .before .before .before .before .before .before .args in Summed (graphOfBuilt (a .b) (a .more .now)) (a .answer .now) (c .run .result .count) (c .run .result .most)
+summed c =
+    let s = c .before .before .before .before .before .before .before .before .before .before .before .before .before .before in
+    let b = s .args .b in
+    let holders = c .before .before .before .before .before .before .before .holders-of in
+    let before = c .before .before .before .before .before .before .before .before .before .states-before in
+    let same = tables-show b (s .args .more .now) (s .pre .0) (holders .result) (holders .ensures) (s .pre .1) (before .result) (before .ensures) in
+    subst (λ (g : Graph). Summed g (s .args .answer .now) (c .run .result .count) (c .run .result .most)) same (c .run .ensures (b .positions) (subst Bounded (sym same) (s .pre .0)))
+
 run-requires : tie.Need-run-requires
 run-requires c κs =
     let s = c .before .before .before .before .before .before .before .before .before .before .before .before .before in
     let holders = c .before .before .before .before .before .before .holders-of in
     let fits : (x : ℕ) → Fits w64 (getD (holders .result) x 0) = λ x. search needs in
-    (omega arith, omega arith, s .pre .3, (λ x. holders-low (s .args .b) (s .args .more .now) (s .pre .0) (holders .result) (holders .ensures) x (fits x .fits)), omega (arith, s .pre .2))
+    (omega arith, omega arith, s .pre .3, (λ x. holders-low (s .args .b) (s .args .more .now) (s .pre .0) (holders .result) (holders .ensures) x (fits x .fits)), search needs, omega (arith, s .pre .2))
+
+mark-of-sum-requires : tie.Need-mark-of-sum-requires
+mark-of-sum-requires c κs = let w = summed (c .before .before) .low in let l = c .before .before .before .before .before .before .before .before .before .before .before .before .before .before .before .before .pre .3 in (omega arith, l)
 
 returns : tie.Need-returns
 returns c =
-    let s = c .before .before .before .before .before .before .before .before .before .before .before .before .before .before .before .before in
-    let b = s .args .b in
-    let r = c .before .before .run in
-    let holders = c .before .before .before .before .before .before .before .before .before .holders-of in
-    let before = c .before .before .before .before .before .before .before .before .before .before .before .states-before in
-    let same = tables-show b (s .args .more .now) (s .pre .0) (holders .result) (holders .ensures) (s .pre .1) (before .result) (before .ensures) in
-    (refl, subst (λ (g : Graph). Answered g (s .args .answer .now) (r .result .count) (r .result .most)) same (r .ensures (b .positions) (subst Bounded (sym same) (s .pre .0))))
+    let w = summed (c .before .before .before) .answered in
+    (refl, record { counts = w .counts; marks = toZ-ofZ (search needs) ∙ c .mark-of-sum .ensures ∙ w .marks })
 
 pub mark-spec : {M : Type 1} → statement M
 mark-spec =
@@ -54,4 +64,5 @@ mark-spec =
     slice-aggregate-run
     slice-aggregate-run-2
     run-requires
+    mark-of-sum-requires
     returns)

@@ -13,7 +13,7 @@ use lib.ListN.{length, getD, take, drop, length-set, take-append-drop}
 use lib.Seq.{getD-set-same, take-suc, take-all, length-take-le}
 use borrow.Author.Tests.{eqb-true, not-false}
 use Rattle.graph.specs.Graph.{Bounded}
-use Rattle.marks.specs.Answers.{Row, graphOfTables}
+use Rattle.marks.specs.Answers.{Row, graphOfTables, Summed}
 use Rattle.marks.proofs.Forward.{row-begin, row-on, row-stop, row-end}
 use Rattle.marks.proofs.run.Statement.{statement}
 use Rattle.marks.proofs.run.Tie as tie
@@ -79,8 +79,8 @@ step-requires c κs =
     let pre = s .pre in
     let holds = pre .3 (getD (a .answer .now) (at .k) 0) in
     ⊎-elim
-    (λ e. (small, holds, omega arith, omega arith, omega arith, omega arith, λ i l j m z. omega arith, pre .4))
-    (λ e. (small, holds, omega arith, omega arith, omega arith, omega arith, λ i l j m z. omega arith, pre .4))
+    (λ e. (small, holds, omega arith, omega arith, omega arith, omega arith, λ i l j m z. omega arith, pre .5))
+    (λ e. (small, holds, omega arith, omega arith, omega arith, omega arith, λ i l j m z. omega arith, pre .5))
     (at .inv .turn)
 
 add-k : tie.Need-add-k Inv-loop μ-loop
@@ -108,7 +108,7 @@ loop-again c =
           subst (λ (x : List ℕ). Row (graphOfTables p (a .holders .now) (a .before .now) (a .lasts) (a .credits .now) (a .linked) (a .more .now)) x (61 - at .from) (st .result) (st .last .0) (st .last .1 .0))
           (sym (ap (λ (n : ℕ). take n (a .answer .now)) (add-one (at .k)) ∙ take-suc (a .answer .now) (at .k) 0 goes))
           (row-on (graphOfTables p (a .holders .now) (a .before .now) (a .lasts) (a .credits .now) (a .linked) (a .more .now)) bounded b (a .linked) (a .more .now) (a .before .now) (a .credits .now) (at .from) (61 - at .from) (at .active) (getD (a .holders .now) b 0) (st .result) (at .counts) (at .best) (st .last .0) (st .last .1 .0) q
-          (λ u i. refl) (λ i. refl) (λ i. refl) (at .inv .small) (omega (arith, length-take-le (at .k) (a .answer .now) (at .inv .within), s .pre .2)) (at .inv .row p bounded) (st .ensures));
+          (λ u i. refl) (λ i. refl) (λ i. refl) (s .pre .4) (at .inv .small) (omega (arith, length-take-le (at .k) (a .answer .now) (at .inv .within), s .pre .2)) (at .inv .row p bounded) (st .ensures));
     }
 
 gather-requires : tie.Need-gather-requires Inv-loop μ-loop
@@ -142,9 +142,9 @@ returns c p bounded =
     (row-stop g (take (at .k) s) (drop (at .k) s) (at .from) (at .active) (at .counts) (at .best) (eqb-true (at .active) 0 (not-false (eqb (at .active) 0) (w .1 .left))) row))
     (λ w. subst (λ (x : List ℕ). Row g x (at .from) (at .active) (at .counts) (at .best)) (take-all (at .k) s (w .left)) row)
     (c .before .before .before .loop-test .came) in
-    let end = row-end g s (at .from) (at .active) (a .lasts) (at .counts) (at .best) (λ u. refl) whole in
     let sum = c .gather .ensures in
-    record { counts = sum .0 ∙ end .counts; marks = sum .1 ∙ end .marks }
+    subst (λ (n : ℕ). Summed g s n (c .gather .result .most)) (sym (sum .0))
+    (subst (Summed g s _) (sym (sum .1)) (row-end g s (at .from) (at .active) (a .lasts) (at .counts) (at .best) (λ u. refl) (at .inv .small) whole))
 
 pub run-spec : {M : Type 1} → statement M
 run-spec =
