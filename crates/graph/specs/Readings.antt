@@ -53,20 +53,20 @@ pub data Best : Type 0 where
   noReading : Best
   earns : ℤ → Best
 
--- the greater of two numbers
+-- the greater of two numbers (`negsuc n` is -(n + 1))
 abbrev pub greater : ℤ → ℤ → ℤ
 greater (pos a) (pos b) = pos (max a b)
 greater (pos a) (negsuc b) = pos a
 greater (negsuc a) (pos b) = pos b
 greater (negsuc a) (negsuc b) = negsuc (min a b)
 
--- of some readings and of others
+-- the best of some readings and of others
 abbrev pub better : Best → Best → Best
 better noReading y = y
 better (earns x) noReading = earns x
 better (earns x) (earns y) = earns (greater x y)
 
--- with a credit before each
+-- the best of them with a credit more
 abbrev pub added : ℤ → Best → Best
 added c noReading = noReading
 added c (earns m) = earns (c +ℤ m)

@@ -155,7 +155,7 @@ module _ (b s : List ℕ) (r : Marked) (says : MarkSays b s r) where
     true-mark = true-mark;
   }
 
--- For C: the header's shifts and masks give back what was packed.
+-- For C: the header's shifts and masks, and the number that it makes of the 32 bits, give back what was packed.
 pub mark-fields-again : (b s : List ℕ) (old new n : ℕ) (h : MarkForC b s old new n) → (field n 32 8 ≡ h .marked .refusal) × (int32 (field n 0 32) ≡ h .marked .mark)
 mark-fields-again b s old new n h = mark-fields b s old new n h
 

@@ -98,6 +98,12 @@ module _ (g : Graph) (from : ℕ) (counts best : List ℕ) (one : cell counts fr
     low = λ u e. let z = eqb-true 0 u (sym (has-pow 0 u) ∙ e) in subst (λ (v : ℕ). cell best from v ≤ 0) z (omega (arith, nothing));
   }
 
+-- the greatest raised sum of possible states
+sums-low : (g : Graph) (s : List ℕ) (from active : ℕ) (counts best : List ℕ) → Row g s from active counts best → (m : ℕ) → ((u : ℕ) → hasBit m u ≡ true → hasBit active u ≡ true)
+    → mostOf m (cell best from) ≤ 18 * length s
+sums-low g s from active counts best row m h =
+    fold-keeps 0 max (λ (a : ℕ). a ≤ 18 * length s) zero-le (λ a c. max-le a c (18 * length s)) (hasBit m) (cell best from) 61 (λ u l e. row .low u (h u e))
+
 -- one letter more
 module _ (g : Graph) (bounded : Bounded g) (b : ℕ) (linked : Bool) (more before credits : List ℕ) (from to active holds r : ℕ) (counts best counts′ best′ : List ℕ) (s : List ℕ)
     (links : (u i : ℕ) → g .links u i ≡ linksOfTables before linked more u i) (held : (i : ℕ) → g .holds i b ≡ hasBit holds i) (earned : (i : ℕ) → g .credit i ≡ creditIn credits i) (long : length credits ≡ 61)
@@ -118,16 +124,14 @@ module _ (g : Graph) (bounded : Bounded g) (b : ℕ) (linked : Bool) (more befor
       let x = cell counts from u in
       ap (λ (z : ℕ). z * y) (mul-comm w x) ∙ mul-assoc x w y ∙ ap (λ (z : ℕ). x * (z * y)) (sym (links u i ∙ if-yes w 0 (hasBit (getD before i 0) u) (here-parts i u e .0)))
 
-  -- the greatest credit of those that arrive at i
+  -- the greatest raised sum of those that arrive at i
   abbrev most : ℕ → ℕ
   most i = mostOf (arriving before active i) (cell best from)
 
   most-low : (i : ℕ) → most i ≤ 18 * length s
-  most-low i =
-      fold-keeps 0 max (λ (a : ℕ). a ≤ 18 * length s) zero-le (λ a c. max-le a c (18 * length s)) (here i) (cell best from) 61
-      (λ u l e. row .low u (here-parts i u e .1))
+  most-low i = sums-low g s from active counts best row (arriving before active i) (λ u e. here-parts i u e .1)
 
-  -- its own, raised
+  -- its own raised credit
   abbrev own : ℕ → ℕ
   own i = getD credits i 9
 
@@ -244,5 +248,5 @@ module _ (g : Graph) (s : List ℕ) (from active lasts : ℕ) (counts best : Lis
           (λ e. let z = eqb-true count 0 e in if-yes (pos 0) (lowered (length s) greatest) (eqb count 0) e ∙ sym (mark-none g s (omega (arith, counted-end))))
           (λ e. if-no (pos 0) (lowered (length s) greatest) (eqb count 0) e ∙ sym (ap markOf (best-end (some-end (λ z. false≢true (sym e ∙ eq-eqb count 0 z))))));
     };
-    low = fold-keeps 0 max (λ (a : ℕ). a ≤ 18 * length s) zero-le (λ a c. max-le a c (18 * length s)) (hasBit ending) (cell best from) 61 (λ u l e. row .low u (both-parts u e .0));
+    low = sums-low g s from active counts best row ending (λ u e. both-parts u e .0);
   }
