@@ -2,9 +2,10 @@
 use mathlib.Core.Path.{_≡_, sym, ap, _∙_, subst}
 use mathlib.Core.Bool.{true, false, not}
 use mathlib.Core.List.{List}
-use Prim.Native.Nat.{ℕ, _^_, _≤_, _<_, min}
+use Prim.Native.Nat.{ℕ, _^_, _≤_, _<_, zero-le, min}
+use native.Mathlib.Omega.{arith}
 use lib.Dec.{eqb, ltb}
-use lib.IntN.{pos}
+use lib.IntN.{ℤ, pos, natAbs}
 use lib.ListN.{length}
 use borrow.Author.Tests.{eqb-true, eq-eqb, ne-eqb, lt-ltb, le-ltb}
 use Rattle.basics.specs.Choice.{if_then_else_}
@@ -59,14 +60,16 @@ module _ (s a : List ℕ) where
         refusal = h .0 ∙ sym f;
         count = h .1 ∙ sym (if-no (min (readings (patternGraph s) a) (2 ^ 63)) 0 (eqb (markRefusal s a) 0) n);
         mark = h .2 ∙ sym (if-no (mark (patternGraph s) a) (pos 0) (eqb (markRefusal s a) 0) n);
+        small = subst (λ (z : ℤ). natAbs z ≤ 36864) (sym (h .2)) zero-le;
       }
 
-  pub says-mark : (g : Graph) (r : Marked) → g ≡ builtGraph s → markRefusal s a ≡ 0 → (r .refusal ≡ 0) × Answered g a (r .count) (r .mark) → MarkSays s a r
-  says-mark g r e f h =
+  pub says-mark : (g : Graph) (r : Marked) → g ≡ builtGraph s → markRefusal s a ≡ 0 → length a ≤ 4096 → (r .refusal ≡ 0) × Answered g a (r .count) (r .mark) → MarkSays s a r
+  says-mark g r e f short h =
       let w = subst (λ (x : Graph). Answered x a (r .count) (r .mark)) (e ∙ built-graph s (pattern-accepted f)) (h .1) in
       let y : eqb (markRefusal s a) 0 ≡ true = eq-eqb (markRefusal s a) 0 f in
       record {
         refusal = h .0 ∙ sym f;
         count = w .counts ∙ sym (if-yes (min (readings (patternGraph s) a) (2 ^ 63)) 0 (eqb (markRefusal s a) 0) y);
         mark = w .marks ∙ sym (if-yes (mark (patternGraph s) a) (pos 0) (eqb (markRefusal s a) 0) y);
+        small = let l = w .small in omega arith;
       }

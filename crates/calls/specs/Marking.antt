@@ -2,9 +2,9 @@
 use mathlib.Core.Path.{_≡_}
 use mathlib.Core.Bool.{not}
 use mathlib.Core.List.{List}
-use Prim.Native.Nat.{ℕ, _^_, min}
+use Prim.Native.Nat.{ℕ, _≤_, _^_, min}
 use lib.Dec.{eqb, ltb}
-use lib.IntN.{ℤ, pos}
+use lib.IntN.{ℤ, pos, natAbs}
 use lib.ListN.{length}
 use Rattle.basics.specs.Choice.{if_then_else_}
 use Rattle.alphabet.specs.Alphabet.{allLetters}
@@ -33,3 +33,5 @@ pub record MarkSays (s a : List ℕ) (r : Marked) : Type 0 where
   pub refusal : r .refusal ≡ markRefusal s a
   pub count : r .count ≡ countShown s a
   pub mark : r .mark ≡ markShown s a
+  -- from -36,864 to 36,864, 9 for each of 4,096 letters
+  pub small : natAbs (r .mark) ≤ 36864

@@ -205,5 +205,7 @@ lowered-off (suc k) l = sub-neg (9 - suc k) 9 (omega arith) ∙ ap negsuc (omega
 pub raised-low : (x : ℕ) → natAbs (lowered 1 x) ≤ 9 → x ≤ 18
 raised-low x h = ⊎-elim (λ l. let e = ap natAbs (sub-pos x 9 l) in omega arith) (λ l. omega arith) (le-or-lt 9 x)
 
-pub lowered-low : (x : ℕ) → x ≤ 18 → natAbs (lowered 1 x) ≤ 9
-lowered-low x h = ⊎-elim (λ l. let e = ap natAbs (sub-pos x 9 l) in omega arith) (λ l. let e = ap natAbs (sub-neg x 9 l) in omega arith) (le-or-lt 9 x)
+-- and the sum of n such credits is as far from 0 as n credits can be
+pub lowered-low : (n x : ℕ) → x ≤ 18 * n → natAbs (lowered n x) ≤ 9 * n
+lowered-low n x h =
+    ⊎-elim (λ l. let e = ap natAbs (sub-pos x (9 * n) l) in omega arith) (λ l. let e = ap natAbs (sub-neg x (9 * n) l) in omega arith) (le-or-lt (9 * n) x)

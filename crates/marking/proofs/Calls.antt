@@ -8,7 +8,7 @@ use mathlib.Core.List.{List, _++_}
 use Prim.Native.Nat.{ℕ, _+_, _*_, _^_, _≤_, min}
 use native.Mathlib.Omega.{arith}
 use lib.Dec.{eqb}
-use lib.IntN.{ℤ, pos}
+use lib.IntN.{ℤ, pos, natAbs}
 use lib.ListN.{length}
 use lib.Signed.{_≤ℤ_}
 use borrow.Author.Tests.{eq-eqb, ne-eqb}
@@ -48,6 +48,8 @@ pub record TrueMark (b s : List ℕ) (r : Marked) : Type 0 where
   pub mark-is-earned : 1 ≤ r .count → (q : List Transition) × (isReading (patternGraph b) s q ≡ true) × (creditOf (patternGraph b) q ≡ r .mark)
   pub mark-is-most : (q : List Transition) → isReading (patternGraph b) s q ≡ true → creditOf (patternGraph b) q ≤ℤ r .mark
   pub mark-is-none : r .count ≡ 0 → r .mark ≡ pos 0
+  -- It is from -36,864 to 36,864.
+  pub mark-is-small : natAbs (r .mark) ≤ 36864
 
 pub record MarkKeeps (b s : List ℕ) (r : Marked) : Type 0 where
   -- Demand 1: each refusal under its own condition and no other; and it is a number and nothing else.
@@ -142,6 +144,7 @@ module _ (b s : List ℕ) (r : Marked) (says : MarkSays b s r) where
         mark-is-earned = λ l. let m = Demands.mark-is-earned b s a (some l) in (m .0, m .1, m .2 ∙ sym best);
         mark-is-most = λ q h. subst (λ (n : ℤ). creditOf (patternGraph b) q ≤ℤ n) (sym best) (Demands.mark-is-most b s q a h);
         mark-is-none = λ e. best ∙ Demands.mark-is-none b s a (omega arith);
+        mark-is-small = says .small;
       }
 
   -- `mark_answer` gave r.

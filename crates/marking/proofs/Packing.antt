@@ -6,7 +6,7 @@ use Prim.Native.Nat.{ℕ, zero, suc, _+_, _-_, _*_, _^_, _≤_, _<_}
 use native.Mathlib.Nat.{mul-le-mul}
 use native.Mathlib.Omega.{arith}
 use lib.Dec.{eqb, ltb}
-use lib.IntN.{ℤ, pos, negsuc, subℕ}
+use lib.IntN.{ℤ, pos, negsuc, subℕ, natAbs}
 use lib.ListN.{length}
 use lib.Signed.{mag}
 use borrow.Author.Tests.{lt-ltb, le-ltb}
@@ -150,6 +150,11 @@ bits-again (negsuc n) l =
     let b = 2 ^ 32 - suc n in
     if-no (pos b) (subℕ b (2 ^ 32)) (ltb b (2 ^ 31)) (le-ltb b (2 ^ 31) (omega arith)) ∙ sub-neg b (2 ^ 32) (omega arith) ∙ ap negsuc (omega arith)
 
+-- and every mark has so many
+pub mark-fits : (z : ℤ) → natAbs z ≤ 36864 → mag z < 2 ^ 31
+mark-fits (pos n) l = omega arith
+mark-fits (negsuc n) l = omega arith
+
 -- packed and unpacked again
 mark-again : (k b : ℕ) → k ≤ 10 → b < 2 ^ 32 → (field (k * 2 ^ 32 + b) 32 8 ≡ k) × (field (k * 2 ^ 32 + b) 0 32 ≡ b)
 mark-again k b low small = omega arith
@@ -157,8 +162,9 @@ mark-again k b low small = omega arith
 pub mark-fields : (s a : List ℕ) (old new n : ℕ) (h : MarkForC s a old new n) → (field n 32 8 ≡ h .marked .refusal) × (int32 (field n 0 32) ≡ h .marked .mark)
 mark-fields s a old new n h =
     let m = h .marked .mark in
-    let f = mark-again (h .marked .refusal) (bits32 m) (omega (arith, h .says .refusal, mark-low s a)) (bits-low m (h .small)) in
-    (ap (λ (k : ℕ). field k 32 8) (h .packing) ∙ f .0, ap (λ (k : ℕ). int32 (field k 0 32)) (h .packing) ∙ ap int32 (f .1) ∙ bits-again m (h .small))
+    let l = mark-fits m (h .says .small) in
+    let f = mark-again (h .marked .refusal) (bits32 m) (omega (arith, h .says .refusal, mark-low s a)) (bits-low m l) in
+    (ap (λ (k : ℕ). field k 32 8) (h .packing) ∙ f .0, ap (λ (k : ℕ). int32 (field k 0 32)) (h .packing) ∙ ap int32 (f .1) ∙ bits-again m l)
 
 pub mark-unpacks : (s a : List ℕ) (old new n : ℕ) → MarkForC s a old new n → MarkSays s a (markUnpacked n new)
 mark-unpacks s a old new n h =
@@ -168,4 +174,5 @@ mark-unpacks s a old new n h =
       refusal = refusal;
       count = ap₂ (λ (k c : ℕ). if eqb k 0 then c else 0) refusal (h .stored) ∙ sym (count-read s a old);
       mark = f .1 ∙ h .says .mark;
+      small = subst (λ (z : ℤ). natAbs z ≤ 36864) (sym (f .1)) (h .says .small);
     }

@@ -1,10 +1,9 @@
 -- What the calls for C promise, for all input: what the calls that they are made of promise, with one number for the result.
 use mathlib.Core.Path.{_≡_}
 use mathlib.Core.List.{List}
-use Prim.Native.Nat.{ℕ, _^_, _<_}
+use Prim.Native.Nat.{ℕ}
 use lib.Dec.{eqb}
 use lib.ListN.{length}
-use lib.Signed.{mag}
 use Rattle.basics.specs.Choice.{if_then_else_}
 use Rattle.marks.specs.declared.Marked.{Marked}
 use Rattle.vetting.specs.declared.Vetted.{Vetted}
@@ -29,11 +28,9 @@ pub record VetAlone (s e e′ : List ℕ) (packed : ℕ) : Type 0 where
 abbrev pub countAfter : List ℕ → List ℕ → ℕ → ℕ
 countAfter s a old = if eqb (markRefusal s a) 0 then countShown s a else old
 
--- marking: the packed result, whose mark fits its field, from -2 ^ 31 on and below 2 ^ 31 (`mag` is n both of n and of -(n + 1)), and
--- what stands behind the pointer before and after
+-- marking: the packed result, and what stands behind the pointer before and after
 pub record MarkForC (s a : List ℕ) (old new packed : ℕ) : Type 0 where
   pub marked : Marked
   pub says : MarkSays s a marked
-  pub small : mag (marked .mark) < 2 ^ 31
   pub packing : packed ≡ markPacked marked
   pub stored : new ≡ countAfter s a old

@@ -17,7 +17,7 @@ use lib.ListN.{length, getD, length-append}
 use borrow.Author.Tests.{eqb-true, eq-eqb, ne-eqb, ltb-true, ltb-false}
 use Rattle.basics.specs.Choice.{if_then_else_}
 use Rattle.basics.specs.Folds.{foldIf, sumIf}
-use Rattle.basics.proofs.Tests.{and-parts, by-test, le-or-lt, if-yes, if-no}
+use Rattle.basics.proofs.Tests.{and-parts, by-test, le-or-lt, if-yes, if-no, if-either}
 use Rattle.basics.proofs.Lists.{within-any}
 use Rattle.basics.proofs.Folds.{fold-zero, fold-yes, fold-same, fold-keeps, fold-through, fold-longer, fold-where, fold-swap, max-le}
 use Rattle.bits.specs.Bits.{hasBit}
@@ -27,7 +27,7 @@ use Rattle.graph.specs.Graph.{Graph, some, isPosition, next, step, Bounded}
 use Rattle.graph.specs.Built.{lowered, creditIn}
 use Rattle.graph.specs.Readings.{countFrom, readings, noReading, earns, better, added, bestFrom, markOf}
 use Rattle.graph.proofs.Walks.{position-of}
-use Rattle.graph.proofs.Best.{better-none, better-comm, better-assoc, added-better, added-twice, added-nothing, lowered-adds, raised-low}
+use Rattle.graph.proofs.Best.{better-none, better-comm, better-assoc, added-better, added-twice, added-nothing, lowered-adds, lowered-low, raised-low}
 use Rattle.graph.proofs.Marks.{mark-none}
 use Rattle.frontier.specs.Rows.{cell, countOf, mostOf, arriving, weight, weighted, Stepped}
 use Rattle.marks.specs.Answers.{bestOf, Row, linksOfTables, Summed}
@@ -240,6 +240,9 @@ module _ (g : Graph) (s : List ℕ) (from active lasts : ℕ) (counts best : Lis
   some-end : (count ≡ 0 → ⊥) → 0 < ending
   some-end d = ⊎-elim (λ l. let z : ending ≡ 0 = omega arith in absurd (d (ap (λ (x : ℕ). min x (2 ^ 63)) (walk-end 0 _+_ (cell counts from) 61 ending z)))) (λ l. l) (le-or-lt ending 0)
 
+  greatest-low : greatest ≤ 18 * length s
+  greatest-low = sums-low g s from active counts best row ending (λ u e. both-parts u e .0)
+
   pub row-end : Summed g s count greatest
   row-end = record {
     answered = record {
@@ -247,6 +250,7 @@ module _ (g : Graph) (s : List ℕ) (from active lasts : ℕ) (counts best : Lis
       marks = by-test (eqb count 0)
           (λ e. let z = eqb-true count 0 e in if-yes (pos 0) (lowered (length s) greatest) (eqb count 0) e ∙ sym (mark-none g s (omega (arith, counted-end))))
           (λ e. if-no (pos 0) (lowered (length s) greatest) (eqb count 0) e ∙ sym (ap markOf (best-end (some-end (λ z. false≢true (sym e ∙ eq-eqb count 0 z))))));
+      small = if-either (λ (z : ℤ). natAbs z ≤ 9 * length s) (pos 0) (lowered (length s) greatest) (eqb count 0) (λ e. zero-le) (λ e. lowered-low (length s) greatest greatest-low);
     };
-    low = sums-low g s from active counts best row ending (λ u e. both-parts u e .0);
+    low = greatest-low;
   }

@@ -5,7 +5,7 @@ use mathlib.Core.Bool.{Bool, true}
 use mathlib.Core.List.{List, _++_}
 use Prim.Native.Nat.{ℕ, _*_, _^_, _≤_, min}
 use lib.Dec.{eqb}
-use lib.IntN.{ℤ, pos}
+use lib.IntN.{ℤ, pos, natAbs}
 use lib.ListN.{length, getD}
 use Rattle.basics.specs.Choice.{if_then_else_}
 use Rattle.basics.specs.Folds.{foldIf}
@@ -40,10 +40,11 @@ graphOfTables positions holders before lasts credits linked more = record {
   credit = creditIn credits;
 }
 
--- [Counts] [Marks] the number of readings, 2 ^ 63 where it is that or more, and the mark
+-- [Counts] [Marks] the number of readings, 2 ^ 63 where it is that or more, and the mark, at most 9 a letter on either side of 0
 pub record Answered (g : Graph) (s : List ℕ) (count : ℕ) (given : ℤ) : Type 0 where
   pub counts : count ≡ min (readings g s) (2 ^ 63)
   pub marks : given ≡ mark g s
+  pub small : natAbs given ≤ 9 * length s
 
 -- the mark by the count of readings and the greatest of their sums, which was raised by 9 for each letter
 abbrev pub markOfSum : ℕ → ℕ → ℕ → ℤ

@@ -55,7 +55,7 @@ atom-at x few (suc i) = ap (λ (l : List Atom). getD l i noAtom) (take-all 60 (a
 
 -- so the tables bound the credits
 pub stored-bounded : (x : Part) (sets credits : List ℕ) → Stored (atoms x) sets credits → positions x ≤ 60 → Bounded (graphOf x)
-stored-bounded x sets credits d few = graph-bounded x few (λ i. subst (λ (c : ℤ). natAbs c ≤ 9) (d .credit i ∙ ap (λ (a : Atom). a .credit) (atom-at x few i)) (lowered-low (getD credits i 9) (d .small i)))
+stored-bounded x sets credits d few = graph-bounded x few (λ i. subst (λ (c : ℤ). natAbs c ≤ 9) (d .credit i ∙ ap (λ (a : Atom). a .credit) (atom-at x few i)) (lowered-low 1 (getD credits i 9) (d .small i)))
 
 -- a guard that a test implies
 guard : (a b : Bool) → (b ≡ true → a ≡ true) → (a && b) ≡ b

@@ -73,7 +73,7 @@ returns-4 c =
     let f = sym (p .refusal) ∙ c .before .before .before .before .before .before .if1 .left in
     let l = c .before .before .before .before .all-letters in
     says-mark (a .pattern .now) (a .answer .now) _ (c .mark .result) (p .graph)
-    (accepted (a .pattern .now) (a .answer .now) f (c .before .before .before .before .before .if2 .left) (sym (l .ensures) ∙ not-false (l .result) (c .before .before .before .if3 .left))) (c .mark .ensures)
+    (accepted (a .pattern .now) (a .answer .now) f (c .before .before .before .before .before .if2 .left) (sym (l .ensures) ∙ not-false (l .result) (c .before .before .before .if3 .left))) (c .before .before .before .before .before .if2 .left) (c .mark .ensures)
 
 pub mark-answer-spec : {M : Type 1} → statement M
 mark-answer-spec =

@@ -7,7 +7,7 @@ use mir.Facts.{toZ-ofZ}
 use mir.Syntax.{w32}
 use mir.Val.{SFits}
 use Rattle.marking.specs.Packing.{bits32}
-use Rattle.marking.proofs.Packing.{bits-low}
+use Rattle.marking.proofs.Packing.{bits-low, mark-fits}
 use Rattle.marking.proofs.Stored.{count-after}
 use borrow.Author.Needs.{needs}
 use Rattle.marking.proofs.marking_mark.Statement.{statement}
@@ -34,7 +34,7 @@ bits-are : (c : tie.After-twos-complement) → c .twos-complement .result ≡ bi
 bits-are c = c .twos-complement .ensures ∙ ap bits32 (toZ-ofZ (fits c))
 
 add-result : tie.Need-add-result
-add-result c = let m = c .before .before .before .before .before .mark-answer .result in omega (arith, bits-are c, bits-low (m .mark) (fits c .sfits))
+add-result c = let m = c .before .before .before .before .before .mark-answer in omega (arith, bits-are c, bits-low (m .result .mark) (mark-fits (m .result .mark) (m .ensures .small)))
 
 returns : tie.Need-returns
 returns c =
@@ -44,7 +44,6 @@ returns c =
     record {
       marked = m .result;
       says = m .ensures;
-      small = fits c .sfits;
       packing = ap (λ (b : ℕ). m .result .refusal * 2 ^ 32 + b) (bits-are c);
       stored = count-after (a .pattern .now) (a .answer .now) (m .result) (a .count .now) (last .count) (m .ensures) (⊎-elim (λ w. inl (w .0 .taken, w .1)) (λ w. inr (w .0 .left, w .1)) (last .came));
     }

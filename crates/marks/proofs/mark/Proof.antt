@@ -9,7 +9,7 @@ use lib.ListN.{getD}
 use Rattle.graph.specs.Graph.{Graph, Bounded}
 use Rattle.graph.specs.Built.{graphOfBuilt}
 use Rattle.graph.proofs.Bounds.{row-below}
-use Rattle.marks.specs.Answers.{Summed}
+use Rattle.marks.specs.Answers.{Answered, Summed}
 use Rattle.marks.proofs.Shown.{holders-low, tables-show}
 use borrow.Author.Needs.{needs}
 use Rattle.marks.proofs.mark.Statement.{statement}
@@ -53,7 +53,7 @@ mark-of-sum-requires c κs = let w = summed (c .before .before) .low in let l = 
 returns : tie.Need-returns
 returns c =
     let w = summed (c .before .before .before) .answered in
-    (refl, record { counts = w .counts; marks = toZ-ofZ (search needs) ∙ c .mark-of-sum .ensures ∙ w .marks })
+    (refl, subst (Answered _ _ _) (sym (toZ-ofZ (search needs) ∙ c .mark-of-sum .ensures)) w)
 
 pub mark-spec : {M : Type 1} → statement M
 mark-spec =
