@@ -10,11 +10,11 @@ use Rattle.letters.specs.LetterSet.{setAt}
 use Rattle.graph.specs.Graph.{Graph}
 use Rattle.graph.specs.declared.Built.{Built}
 
--- Programs keep a credit raised by 9, so that it has no sign: the sum x of n raised credits, without what they were raised by.
+-- Programs keep a credit raised by 9, so that it has no sign. The sum of n credits, where x is the sum of the raised ones.
 abbrev pub lowered : ℕ → ℕ → ℤ
 lowered n x = subℕ x (9 * n)
 
--- entry i of a table of raised credits
+-- the credit that a table of raised ones has for position i; past its end 0
 abbrev pub creditIn : List ℕ → ℕ → ℤ
 creditIn credits i = lowered 1 (getD credits i 9)
 
