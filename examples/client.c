@@ -200,7 +200,7 @@ static struct marking_marked mark(const char *pattern, const char *answer) {
     if (m.refusal != MARKING_ACCEPTED)
         printf("refused, %u: %s\n", m.refusal, reason(m.refusal));
     else
-        printf("%s, mark %u\n  %s\n", readings(count), (unsigned)m.mark,
+        printf("%s, mark %d\n  %s\n", readings(count), (int)m.mark,
                count > TRIED ? "past the " TRIED_TEXT " that the marking machine tries: its mark may be lower"
                              : "within the " TRIED_TEXT " that the marking machine tries: it finds this mark");
     return m;

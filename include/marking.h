@@ -79,7 +79,7 @@ struct marking_vetted {
 /* What marking gives besides the count. */
 struct marking_marked {
     enum marking_refusal refusal;
-    uint32_t mark; /* the most credit that one reading earns; 0 where there is none */
+    int32_t mark; /* the most credit that one reading earns, which may be below zero; 0 where there is no reading */
 };
 
 /*
@@ -99,7 +99,7 @@ uint64_t marking_vet_in(const uint8_t *pattern, size_t pattern_len, uint8_t *evi
  * Marks an answer by a pattern. Without a refusal *count becomes the number of readings, MARKING_COUNT_MAX where it is that or
  * more.
  * The number returned, for marking_mark_unpack:
- *   bits 0 to 31   the mark
+ *   bits 0 to 31   the mark, an int32_t as two's complement
  *   bits 32 to 39  the refusal, 0 for none (the mark is then 0)
  */
 uint64_t marking_mark(const uint8_t *pattern, size_t pattern_len, const uint8_t *answer, size_t answer_len, uint64_t *count);
@@ -120,9 +120,10 @@ static inline struct marking_vetted marking_vet_unpack(uint64_t bits) {
 
 /* What marking_mark returned. */
 static inline struct marking_marked marking_mark_unpack(uint64_t bits) {
+    const uint32_t low = (uint32_t)(bits & 0xffffffff);
     struct marking_marked m;
     m.refusal = (enum marking_refusal)(bits >> 32 & 0xff);
-    m.mark = (uint32_t)(bits & 0xffffffff);
+    m.mark = low <= INT32_MAX ? (int32_t)low : -(int32_t)(UINT32_MAX - low) - 1; /* an int32_t holds what is cast */
     return m;
 }
 

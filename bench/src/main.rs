@@ -11,11 +11,11 @@ extern "C" {
     fn marking_mark(pattern: *const u8, pattern_len: usize, answer: *const u8, answer_len: usize, count: *mut u64) -> u64;
 }
 
-fn mark(pattern: &[u8], answer: &[u8]) -> Result<(u64, u32), u8> {
+fn mark(pattern: &[u8], answer: &[u8]) -> Result<(u64, i32), u8> {
     let mut count = 0;
     let r = unsafe { marking_mark(pattern.as_ptr(), pattern.len(), answer.as_ptr(), answer.len(), &mut count) };
     match (r >> 32) as u8 {
-        0 => Ok((count, r as u32)),
+        0 => Ok((count, r as u32 as i32)),
         n => Err(n),
     }
 }
@@ -63,15 +63,14 @@ fn latin1(text: &str) -> Vec<u8> {
 fn loads() -> Vec<Load> {
     let mut r = Random(1);
     let mut text = |letters: &[u8], n: usize| -> Vec<u8> { (0..n).map(|_| letters[r.below(letters.len())]).collect() };
-    let branch = |atom: &str, n: usize| format!("({atom}|{atom})").repeat(n);
     // 60 positions, each with two or four that may come next, in two branches of 13 and 17 steps: after some letters all are possible
-    let busy = |atom: &str| format!("({}|{})*", branch(atom, 13), branch(atom, 17)).into_bytes();
+    let busy = |atoms: &str| format!("({}|{})*", atoms.repeat(13), atoms.repeat(17)).into_bytes();
     // 60 positions, each with four that may come next, two of them by two links: after 30 letters all are possible
     let twice = format!("({})*", "((.|.)+)+".repeat(30)).into_bytes();
     vec![
         Load {
             name: "every position possible, 4,096 letters",
-            pattern: busy("."),
+            pattern: busy("(.|.)"),
             answers: (0..20).map(|_| text(b"abcdefgh", 4096)).collect(),
         },
         Load {
@@ -94,6 +93,12 @@ fn loads() -> Vec<Load> {
             name: "all pairs linked twice, 4,096 letters",
             pattern: format!("(({})*)*", ".*".repeat(60)).into_bytes(),
             answers: vec![text(b"abcdefgh", 4096)],
+        },
+        // as the first, and each position earns or takes off
+        Load {
+            name: "credits of both signs, 4,096 letters",
+            pattern: busy("(.=2|.=-3)"),
+            answers: vec![b"abcdefgh".repeat(512); 20],
         },
         Load {
             name: "ordinary text, 4,096 letters",
@@ -134,7 +139,7 @@ fn marking() {
             assert_eq!(got, plain::mark_all_pairs(&l.pattern, a));
         }
         let n = if l.answers[0].len() > 1000 { 1 } else { 500 };
-        let run = |f: fn(&[u8], &[u8]) -> Result<(u64, u32), u8>, n: usize| {
+        let run = |f: fn(&[u8], &[u8]) -> Result<(u64, i32), u8>, n: usize| {
             time(7, || {
                 for _ in 0..n {
                     for a in &l.answers {
@@ -220,7 +225,7 @@ fn reading() {
     let mut ratios = Vec::new();
     for (name, list) in patterns() {
         let n = 200;
-        let run = |f: fn(&[u8], &[u8]) -> Result<(u64, u32), u8>| {
+        let run = |f: fn(&[u8], &[u8]) -> Result<(u64, i32), u8>| {
             time(7, || {
                 for _ in 0..n {
                     for p in &list {

@@ -13,7 +13,7 @@ pub struct Built {
     pub more: Vec<[u64; 8]>,
     pub lasts: u64,
     pub letters: [Set; 61],
-    pub credits: [u8; 61],
+    pub credits: [i8; 61],
 }
 
 impl Built {
@@ -232,12 +232,18 @@ impl Reader<'_> {
         let mut credit = 0;
         if self.peek() == b'=' {
             self.at += 1;
-            let d = self.peek();
+            let mut d = self.peek();
+            let off = d == b'-';
+            if off {
+                self.at += 1;
+                d = self.peek();
+            }
             if !(b'1'..=b'9').contains(&d) {
                 return None;
             }
             self.at += 1;
-            credit = d - b'0';
+            let points = (d - b'0') as i8;
+            credit = if off { -points } else { points };
         }
         self.hollow |= set == [0; 4];
         self.positions += 1;
@@ -327,7 +333,7 @@ fn accepted(text: &[u8], answer: &[u8], b: &mut Built) -> Result<(), u8> {
 }
 
 /// Marking by sets.
-pub fn mark(text: &[u8], answer: &[u8]) -> Result<(u64, u32), u8> {
+pub fn mark(text: &[u8], answer: &[u8]) -> Result<(u64, i32), u8> {
     let mut b = Built::new();
     accepted(text, answer, &mut b)?;
     let s = sets(&b);
@@ -337,9 +343,9 @@ pub fn mark(text: &[u8], answer: &[u8]) -> Result<(u64, u32), u8> {
 }
 
 #[inline(never)]
-fn mark_by<const LINKED: bool>(b: &Built, s: &Sets, numbers: &[[u8; 61]], answer: &[u8]) -> (u64, u32) {
+fn mark_by<const LINKED: bool>(b: &Built, s: &Sets, numbers: &[[u8; 61]], answer: &[u8]) -> (u64, i32) {
     let mut counts = [[0u64; 61]; 2];
-    let mut best = [[0u32; 61]; 2];
+    let mut best = [[0i32; 61]; 2];
     counts[0][0] = 1;
     let mut active = 1u64;
     let mut row = 0;
@@ -354,15 +360,15 @@ fn mark_by<const LINKED: bool>(b: &Built, s: &Sets, numbers: &[[u8; 61]], answer
                 continue;
             }
             next |= 1 << i;
-            let (mut n, mut m) = (0, 0);
+            let (mut n, mut m) = (0, i32::MIN);
             while from != 0 {
                 let u = from.trailing_zeros() as usize;
                 from &= from - 1;
-                n = plus(n, if LINKED { times(counts[row][u], numbers[i][u]) } else { counts[row][u] });
                 m = m.max(best[row][u]);
+                n = plus(n, if LINKED { times(counts[row][u], numbers[i][u]) } else { counts[row][u] });
             }
             counts[1 - row][i] = n;
-            best[1 - row][i] = m + u32::from(b.credits[i]);
+            best[1 - row][i] = m + i32::from(b.credits[i]);
         }
         active = next;
         row = 1 - row;
@@ -370,7 +376,7 @@ fn mark_by<const LINKED: bool>(b: &Built, s: &Sets, numbers: &[[u8; 61]], answer
             return (0, 0);
         }
     }
-    let (mut n, mut m) = (0, 0);
+    let (mut n, mut m) = (0, i32::MIN);
     let mut left = active & b.lasts;
     while left != 0 {
         let u = left.trailing_zeros() as usize;
@@ -378,11 +384,12 @@ fn mark_by<const LINKED: bool>(b: &Built, s: &Sets, numbers: &[[u8; 61]], answer
         n = plus(n, counts[row][u]);
         m = m.max(best[row][u]);
     }
-    (n, m)
+    // n is 0 where no last is possible
+    (n, if n == 0 { 0 } else { m })
 }
 
 /// Marking by trying all pairs of positions at each letter, without sets.
-pub fn mark_all_pairs(text: &[u8], answer: &[u8]) -> Result<(u64, u32), u8> {
+pub fn mark_all_pairs(text: &[u8], answer: &[u8]) -> Result<(u64, i32), u8> {
     let mut b = Built::new();
     accepted(text, answer, &mut b)?;
     let numbers = b.numbers();
@@ -398,19 +405,19 @@ pub fn mark_all_pairs(text: &[u8], answer: &[u8]) -> Result<(u64, u32), u8> {
         }
     }
     let mut counts = [0u64; 61];
-    let mut best = [None::<u32>; 61];
+    let mut best = [None::<i32>; 61];
     counts[0] = 1;
     best[0] = Some(0);
     for c in answer {
         let held = &holds[*c as usize];
         let mut new_counts = [0u64; 61];
-        let mut new_best = [None::<u32>; 61];
+        let mut new_best = [None::<i32>; 61];
         for i in 1..=b.positions {
             for u in 0..=b.positions {
                 if follow[u][i] && held[i] {
                     new_counts[i] = plus(new_counts[i], if linked { times(counts[u], numbers[i][u]) } else { counts[u] });
                     if let Some(m) = best[u] {
-                        new_best[i] = new_best[i].max(Some(m + u32::from(b.credits[i])));
+                        new_best[i] = new_best[i].max(Some(m + i32::from(b.credits[i])));
                     }
                 }
             }
@@ -418,14 +425,14 @@ pub fn mark_all_pairs(text: &[u8], answer: &[u8]) -> Result<(u64, u32), u8> {
         counts = new_counts;
         best = new_best;
     }
-    let (mut n, mut m) = (0, 0);
+    let (mut n, mut m) = (0, None);
     for u in 0..=b.positions {
         if b.lasts >> u & 1 == 1 {
             n = plus(n, counts[u]);
-            m = m.max(best[u].unwrap_or(0));
+            m = m.max(best[u]);
         }
     }
-    Ok((n, m))
+    Ok((n, m.unwrap_or(0)))
 }
 
 /// The search for a verdict: pairs unordered, breadth first, a queue with predecessors.

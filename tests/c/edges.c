@@ -1,8 +1,9 @@
 /*
  * The memory that the calls may not touch: null with length 0 for every slice, memory that cannot be written behind every refused
  * call, null and memory that cannot even be read behind the count of a refused mark, and slices that end where memory ends. Touching
- * it is a crash, which is told with the name of the test. Besides, the first and the last letters and the codes beside them. The last
- * line is 'N passed, M failed', and any failure makes the exit status 1.
+ * it is a crash, which is told with the name of the test. Besides, the first and the last letters and the codes beside them, and
+ * marks on both sides of 0 and at both ends, bit by bit. The last line is 'N passed, M failed', and any failure makes the exit
+ * status 1.
  */
 #define _DEFAULT_SOURCE /* MAP_ANONYMOUS */
 #include "marking.h"
@@ -184,6 +185,66 @@ static void edge_codes(void) {
     check(marking_vet_unpack(marking_vet(steady, 10, evidence, MARKING_EVIDENCE)).text_len == 2 && memcmp(evidence, "\xe9\x62", 2) == 0);
 }
 
+/* Marks as the bits that are returned, which have nothing but the mark in them, and unpacked. */
+static void signed_marks(void) {
+    static char long_text[MARKING_ANSWER_MAX];
+    memset(long_text, 'a', sizeof long_text);
+    const struct {
+        const char *name, *pattern;
+        size_t answer_len;
+        uint64_t bits, count;
+        int32_t mark;
+    } cases[] = {
+        {"mark -1", "a=-1", 1, 0xffffffff, 1, -1},
+        {"mark -2", "a=-2", 1, 0xfffffffe, 1, -2},
+        {"mark 1", "a=1", 1, 1, 1, 1},
+        {"mark -1, the better of two", "a=-2|a=-1", 1, 0xffffffff, 2, -1},
+        {"mark 0, one reading", "a=-1a=1", 2, 0, 1, 0},
+        {"mark 0, the empty answer", "a=-5*", 0, 0, 1, 0},
+        {"mark 0, no reading", "a=-5", 2, 0, 0, 0},
+        {"mark 0, no reading of the empty answer", "a=-5", 0, 0, 0, 0},
+        {"mark 0, no reading of the longest answer", "a=-9*b", MARKING_ANSWER_MAX, 0, 0, 0},
+        {"mark -36,864", "a=-9*", MARKING_ANSWER_MAX, 0xffff7000, 1, -36864},
+        {"mark 36,864", "a=9*", MARKING_ANSWER_MAX, 0x9000, 1, 36864},
+        {"mark -36,855", "a=-9*", MARKING_ANSWER_MAX - 1, 0xffff7009, 1, -36855},
+        {"mark -4,096 with the most readings", "(a=-1*)*", MARKING_ANSWER_MAX, 0xfffff000, MARKING_COUNT_MAX, -4096},
+        {"a hyphen after the credit", "a=-1-?", 1, 0xffffffff, 1, -1},
+    };
+    for (size_t i = 0; i < sizeof cases / sizeof cases[0]; i++) {
+        size_t len = strlen(cases[i].pattern), n = cases[i].answer_len;
+        uint64_t count = 7;
+        running = cases[i].name;
+        uint64_t bits = marking_mark(at_the_end(cases[i].pattern, len), len, at_the_end(long_text, n), n, &count);
+        struct marking_marked m = marking_mark_unpack(bits);
+        check(bits == cases[i].bits && count == cases[i].count);
+        check(m.refusal == MARKING_ACCEPTED && m.mark == cases[i].mark);
+    }
+}
+
+/* Numbers that no call returns, too: the lowest and the highest mark of 32 bits and those beside 0, with a refusal and without. */
+static void unpacked_marks(void) {
+    static const struct {
+        uint64_t bits;
+        int32_t mark;
+    } marks[] = {{0, 0},
+                 {1, 1},
+                 {0x9000, 36864},
+                 {0x7ffffffe, INT32_MAX - 1},
+                 {0x7fffffff, INT32_MAX},
+                 {0x80000000, INT32_MIN},
+                 {0x80000001, INT32_MIN + 1},
+                 {0xffff7000, -36864},
+                 {0xfffffffe, -2},
+                 {0xffffffff, -1}};
+    static const unsigned refusals[] = {0, 3, 10, 127, 128, 255};
+    running = "a mark unpacked";
+    for (size_t i = 0; i < sizeof marks / sizeof marks[0]; i++)
+        for (size_t k = 0; k < sizeof refusals / sizeof refusals[0]; k++) {
+            struct marking_marked m = marking_mark_unpack((uint64_t)refusals[k] << 32 | marks[i].bits);
+            check(m.mark == marks[i].mark && (unsigned)m.refusal == refusals[k]);
+        }
+}
+
 int main(void) {
     static char long_text[MARKING_ANSWER_MAX + 1];
     memset(long_text, 'a', sizeof long_text);
@@ -198,6 +259,12 @@ int main(void) {
         {"refusal 8", many, MARKING_POSITIONS_MAX + 1, a, 1, MARKING_TOO_MANY_POSITIONS},
         {"refusal 4, code 127", at_the_end("a\x7f", 2), 2, a, 1, MARKING_PATTERN_NO_LETTER},
         {"refusal 4, code 159", at_the_end("[z-\x9f]", 5), 5, a, 1, MARKING_PATTERN_NO_LETTER},
+        {"refusal 5, a pattern that ends with =", at_the_end("a=", 2), 2, a, 1, MARKING_PATTERN_GRAMMAR},
+        {"refusal 5, a pattern that ends with =-", at_the_end("a=-", 3), 3, a, 1, MARKING_PATTERN_GRAMMAR},
+        {"refusal 5, a digit past the pattern", at_the_end("a=-1", 4), 3, a, 1, MARKING_PATTERN_GRAMMAR},
+        {"refusal 5, =-0", at_the_end("a=-0", 4), 4, a, 1, MARKING_PATTERN_GRAMMAR},
+        {"refusal 9, points off", at_the_end("a=-1*", 5), 5, many, MARKING_ANSWER_MAX + 1, MARKING_ANSWER_TOO_LONG},
+        {"refusal 10, points off", at_the_end("a=-1*", 5), 5, at_the_end("a\t", 2), 2, MARKING_ANSWER_NO_LETTER},
         {"refusal 9", a, 1, many, MARKING_ANSWER_MAX + 1, MARKING_ANSWER_TOO_LONG},
         {"refusal 10", a, 1, at_the_end("a\t", 2), 2, MARKING_ANSWER_NO_LETTER},
         {"refusal 10, code 127", a, 1, at_the_end("a\x7f", 2), 2, MARKING_ANSWER_NO_LETTER},
@@ -209,8 +276,10 @@ int main(void) {
     empty_slices();
     whole_slices();
     edge_codes();
-    refused_vets(cases, 8); /* the last four are of answers */
-    refused_marks(cases, 12);
+    signed_marks();
+    unpacked_marks();
+    refused_vets(cases, 12); /* the last six are of answers */
+    refused_marks(cases, 18);
     printf("%d passed, %d failed\n", passed, failed);
     return failed != 0;
 }

@@ -72,6 +72,7 @@ static void limits(void) {
     check("the most positions", vet(letters(MARKING_POSITIONS_MAX)).positions == MARKING_POSITIONS_MAX);
     refused("a position more", letters(MARKING_POSITIONS_MAX + 1), MARKING_TOO_MANY_POSITIONS);
     check("the longest answer", mark("a=9*", MARKING_ANSWER_MAX, &count).mark == 9 * MARKING_ANSWER_MAX && count == 1);
+    check("the lowest mark", mark("a=-9*", MARKING_ANSWER_MAX, &count).mark == -9 * MARKING_ANSWER_MAX && count == 1);
     check("a letter more", mark("a*", MARKING_ANSWER_MAX + 1, &count).refusal == MARKING_ANSWER_TOO_LONG && count == 1);
     check("2^62 readings", mark("(a|a)*", 62, &count).refusal == MARKING_ACCEPTED && count == MARKING_COUNT_MAX / 2);
     check("2^63 readings", mark("(a|a)*", 63, &count).refusal == MARKING_ACCEPTED && count == MARKING_COUNT_MAX);
@@ -86,6 +87,8 @@ static void refusals(void) {
     refused("a tab", "a\tb", MARKING_PATTERN_NO_LETTER);
     refused("the empty pattern", "", MARKING_PATTERN_GRAMMAR);
     refused("a closing bracket", "a)", MARKING_PATTERN_GRAMMAR);
+    refused("a credit of -0", "a=-0", MARKING_PATTERN_GRAMMAR);
+    refused("a credit without a digit", "a=-", MARKING_PATTERN_GRAMMAR);
     refused("[z-a]", "[z-a]", MARKING_RANGE_REVERSED);
     refused("a byte between the letters", "[z-\x9f]", MARKING_PATTERN_NO_LETTER);
     refused("a class of no letter", "[^ -\xff]", MARKING_CLASS_EMPTY);
@@ -102,6 +105,18 @@ static void accents(void) {
     check("a class of the upper letters", vet("[^ -~]").refusal == MARKING_ACCEPTED && vet("[^ -~]").positions == 1);
     check("an accent in the answer", marking_mark(bytes("caf[\xe8-\xea]=1"), 10, bytes("caf\xe9"), 4, &count) == 1 && count == 1);
     check("the accent left out", marking_mark(bytes("caf\xe9"), 4, bytes("cafe"), 4, &count) == 0 && count == 0);
+}
+
+/* Points taken off: the mark is that of the best reading, and 0 where there is none. */
+static void points_off(void) {
+    uint64_t count = 7;
+    struct marking_marked m = mark("a=-2", 1, &count);
+    check("two points off", m.refusal == MARKING_ACCEPTED && m.mark == -2 && m.mark < 0 && count == 1);
+    check("one point off", mark("a=-1", 1, &count).mark == -1 && count == 1);
+    check("the better of two readings", mark("a=-2|a=-1", 1, &count).mark == -1 && count == 2);
+    check("off and earned", mark("a=-3a=2", 2, &count).mark == -1 && count == 1);
+    check("as much off as earned", mark("a=-1a=1", 2, &count).mark == 0 && count == 1);
+    check("off, and no reading", mark("a=-5", 2, &count).mark == 0 && count == 0);
 }
 
 static void verdicts(void) {
@@ -132,9 +147,15 @@ static void fields(void) {
     check("bits 48 to 59, z", v.z_len == 4095 && v.x_len + v.y_len == 0 && v.text_len == 4095);
     v = marking_vet_unpack(UINT64_C(1) << 8 | UINT64_C(0xfff) << 24);
     check("bits 24 to 35, a steady text", v.verdict == MARKING_STEADY && v.x_len == 0 && v.text_len == 4095);
-    check("bits 0 to 31, the mark", m.mark == 0xffffffff && m.refusal == MARKING_ACCEPTED);
+    check("bits 0 to 31, the mark", m.mark == -1 && m.refusal == MARKING_ACCEPTED);
+    m = marking_mark_unpack(UINT64_C(1) << 31);
+    check("bit 31, the lowest mark", m.mark == INT32_MIN && m.refusal == MARKING_ACCEPTED);
+    m = marking_mark_unpack(0x7fffffff);
+    check("bits 0 to 30, the highest mark", m.mark == INT32_MAX && m.refusal == MARKING_ACCEPTED);
     m = marking_mark_unpack(UINT64_C(0xff) << 32);
     check("bits 32 to 39, the mark's refusal", m.mark == 0 && (unsigned)m.refusal == 255);
+    m = marking_mark_unpack(UINT64_C(0xffffffffff));
+    check("bits 0 to 39, the mark and its refusal", m.mark == -1 && (unsigned)m.refusal == 255);
 }
 
 static void version(void) {
@@ -147,6 +168,7 @@ int main(void) {
     limits();
     refusals();
     accents();
+    points_off();
     verdicts();
     fields();
     version();

@@ -16,7 +16,7 @@ pub enum Vetted {
 #[derive(Clone, Copy, Debug, PartialEq, Eq)]
 pub enum Marked {
     Refused(u8),
-    Answer { count: u64, mark: u32 },
+    Answer { count: u64, mark: i32 },
 }
 
 const GUARD: usize = 64;
@@ -102,5 +102,5 @@ pub fn mark(pattern: &[u8], answer: &[u8]) -> Result<Marked, String> {
         }
         return Ok(Marked::Refused(refusal));
     }
-    Ok(Marked::Answer { count: guarded[1], mark: r as u32 })
+    Ok(Marked::Answer { count: guarded[1], mark: r as u32 as i32 })
 }

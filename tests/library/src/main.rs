@@ -1,7 +1,7 @@
-//! Tests of the library against the rules: specimens, every byte in patterns and in answers, French and Spanish texts, edges of every
-//! refusal, the last positions and the first past them, links by the hundred and counts at 2^63 by links, answers short and long, calls
-//! one after another, lent scratch, threads, what the pages claim, and random patterns and answers against an independent model. The
-//! last line is 'N passed, M failed'. Arguments: how many random patterns, and a seed.
+//! Tests of the library against the rules: specimens, every byte in patterns and in answers, French and Spanish texts, points taken
+//! off, every byte in a credit, edges of every refusal, the last positions and the first past them, links by the hundred and counts at
+//! 2^63 by links, answers short and long, calls one after another, lent scratch, threads, what the pages claim, and random patterns and
+//! answers against an independent model. The last line is 'N passed, M failed'. Arguments: how many random patterns, and a seed.
 
 mod library;
 mod model;
@@ -60,7 +60,7 @@ fn verdict_is(t: &mut Tally, pattern: &[u8], verdict: u8) {
     }
 }
 
-fn marks(t: &mut Tally, pattern: &[u8], answer: &[u8], count: u64, best: u32) {
+fn marks(t: &mut Tally, pattern: &[u8], answer: &[u8], count: u64, best: i32) {
     let name = format!("mark {} on {} letters {}", show(pattern), answer.len(), show(&answer[..answer.len().min(20)]));
     t.same(mark(pattern, answer), Ok(Marked::Answer { count, mark: best }), &name);
 }
@@ -203,9 +203,11 @@ fn many_links(t: &mut Tally) {
     for letters in 1..=8 {
         counts(t, &sixty, &"a".repeat(letters), 60u128.pow(letters as u32) * 131u128.pow(letters as u32 - 1));
     }
-    let credits = nest("a=1|b=2*", 100, '*');
-    marks(t, credits.as_bytes(), b"abba", 100 * 101 * 100, 6);
-    marks(t, credits.as_bytes(), &b"ab".repeat(2048), MOST, 3 * 2048);
+    for (part, earned) in [("a=1|b=2*", 3), ("a=-1|b=2*", 1), ("a=1|b=-2*", -1), ("a=-1|b=-2*", -3)] {
+        let credits = nest(part, 100, '*');
+        marks(t, credits.as_bytes(), b"abba", 100 * 101 * 100, 2 * earned);
+        marks(t, credits.as_bytes(), &b"ab".repeat(2048), MOST, 2048 * earned);
+    }
 }
 
 /// Counts around 2^63 that are reached by links: as a sum at the end or at a letter, as a product, and from what was cut before.
@@ -403,6 +405,251 @@ fn french_and_spanish(t: &mut Tally) {
     }
 }
 
+/// A count and a mark, as the rules and as the model have them.
+fn earns(t: &mut Tally, pattern: &[u8], answer: &[u8], count: u64, best: i32) {
+    marks(t, pattern, answer, count, best);
+    match model::read(pattern) {
+        Ok(p) => as_in_model(t, pattern, &p, answer, None),
+        Err(refusal) => t.check(false, || format!("the model refuses {}: {refusal}", show(pattern))),
+    }
+}
+
+/// Credits below zero: the mark is the most that one reading earns, be it below zero, and 0 where there is none.
+fn points_off(t: &mut Tally) {
+    let short: [(&[u8], &[u8], u64, i32); 39] = [
+        (b"a=-2", b"a", 1, -2),
+        (b"a=-1", b"a", 1, -1),
+        (b"a=-9", b"a", 1, -9),
+        (b"a=-2|a=-1", b"a", 2, -1),
+        (b"a=-1|a=-2", b"a", 2, -1),
+        (b"a=-2|a", b"a", 2, 0),
+        (b"a=-2|a=3", b"a", 2, 3),
+        (b"a=-3|a=-2|a=-9", b"a", 3, -2),
+        (b"(a=-5|a=-2)(b=1|b=-4)", b"ab", 4, -1),
+        (b"(a=-1b=1|ab)*", b"abab", 4, 0),
+        (b"(a=-1b=-1|ab=-1)*", b"abab", 4, -2),
+        (b"(a=-1|b|ab=-3)*c=1", b"abc", 2, 0),
+        (b"(a=-3|b=2)*", b"abba", 1, -2),
+        (b"(a=-3|b=2)*", b"bbb", 1, 6),
+        (b"(a=-3|b=2)*", b"aabbb", 1, 0),
+        // 0 with a reading
+        (b"a=-1b=1", b"ab", 1, 0),
+        (b"a=1b=-1", b"ab", 1, 0),
+        (b"a=-9b=4c=5", b"abc", 1, 0),
+        // a path that earns more and ends nowhere
+        (b"a=-5b|a=-1c", b"ab", 1, -5),
+        (b"a=9b|a=-9c", b"ac", 1, -9),
+        (b"(a=9b|a=-9)*", b"aab", 1, 0),
+        // the empty answer
+        (b"a=-5*", b"", 1, 0),
+        (b"a=-5?", b"", 1, 0),
+        (b"(a=-5|b=-1*)+", b"", 1, 0),
+        (b"a=-5?", b"a", 1, -5),
+        (b"a=-5?a=-3?", b"a", 2, -3),
+        // no reading
+        (b"a=-5", b"b", 0, 0),
+        (b"a=-5", b"", 0, 0),
+        (b"a=-5", b"aa", 0, 0),
+        (b"a=-5b=-5", b"a", 0, 0),
+        (b"a=-5+|b=-1", b"ab", 0, 0),
+        // repeats and links
+        (b"a=-1*", b"aaa", 1, -3),
+        (b"a=-1+", b"aaa", 1, -3),
+        (b"(a=-1*)*", b"aaa", 4, -3),
+        (b"((a=-9*)*)*", b"aaa", 9, -27),
+        (b"a=-1*a=-2*", b"aaa", 4, -3),
+        (b"(a=-1*b=2?)*", b"aab", 4, 0),
+        (b"\xe9=-2", b"\xe9", 1, -2),
+        (b"(\xe9=-2|[\xe0-\xff]=-1)t=-3", b"\xe9t", 2, -4),
+    ];
+    for (pattern, answer, count, best) in short {
+        earns(t, pattern, answer, count, best);
+    }
+    for (pattern, each) in [(&b"a=-9*"[..], -9), (b"a=9*", 9), (b"a=-1*", -1), (b"(a=-9)+", -9), (b"[ -\xff]=-9*", -9)] {
+        for n in [1, 2, 255, 256, 4095, 4096] {
+            earns(t, pattern, &vec![b'a'; n], 1, each * n as i32);
+        }
+    }
+    // from 36,864 off to as many earned
+    for off in [0, 1, 2, 1000, 2047, 2048, 2049, 4095, 4096] {
+        let answer = [vec![b'a'; off], vec![b'b'; 4096 - off]].concat();
+        earns(t, b"(a=-9|b=9)*", &answer, 1, 9 * (4096 - 2 * off as i32));
+        earns(t, b"a=-9*b=9*", &answer, 1, 9 * (4096 - 2 * off as i32));
+    }
+    let power = |base: u64, n: usize| base.checked_pow(n as u32).map_or(MOST, |count| count.min(MOST));
+    for n in [0, 1, 2, 3, 12, 40, 41, 62, 63, 64, 4096] {
+        let answer = vec![b'a'; n];
+        for (pattern, each) in [(&b"(a=-1|a=1)*"[..], 1), (b"(a=1|a=-1)*", 1), (b"(a=-1|a=-2)*", -1), (b"(a=-9|a=-9)*", -9), (b"(a=-9|a)*", 0)] {
+            earns(t, pattern, &answer, power(2, n), each * n as i32);
+        }
+        earns(t, b"(a=-1*)*", &answer, power(2, n.saturating_sub(1)), -(n as i32));
+        earns(t, b"((a=-9*)*)*", &answer, power(3, n.saturating_sub(1)), -9 * n as i32);
+    }
+    // one letter after another, a or b, by the binary digits of a number
+    for k in 0..64 {
+        let answer: Vec<u8> = (0..6).map(|i| b"ab"[k >> i & 1]).collect();
+        let b = k.count_ones() as i32;
+        earns(t, b"(a=-3|b=2)*", &answer, 1, 2 * b - 3 * (6 - b));
+        earns(t, b"(a=-3|b=2|[ab]=-1)*", &answer, 64, 2 * b - (6 - b));
+        earns(t, b"([ab]=-3|.=-2)*", &answer, 64, -12);
+    }
+    for n in [1, 2, 31, 62, 63, 2048] {
+        let answer = b"ab".repeat(n);
+        earns(t, b"(a=-1b=1|ab)*", &answer, power(2, n), 0);
+        earns(t, b"(a=-1b=2|a=1b=-3)*", &answer, power(2, n), n as i32);
+        earns(t, b"(a=-1b=-2|a=1b=-5)*", &answer, power(2, n), -3 * n as i32);
+        earns(t, b"(a=-1b=-2|a=1b=-5)*", &answer[1..], 0, 0);
+    }
+    // no reading of a long answer, which goes wrong at its first letters, in the middle or at its last
+    for at in [0, 1, 2, 100, 2048, 4094, 4095] {
+        let mut answer = vec![b'a'; 4096];
+        answer[at] = b'b';
+        for pattern in [&b"a=-5*"[..], b"a=5*", b"(a=-1|a=-2)*", b"(a=-1*)*", b"a=-9+(ca=-1)*", b"(a=-1|b=-2c)*"] {
+            earns(t, pattern, &answer, 0, 0);
+        }
+    }
+    earns(t, b"(a=-1|a=2)*b=-3", &[b'a'; 4096], 0, 0);
+    t.same(mark(b"a=-1*", &[b'a'; 4097]), Ok(Marked::Refused(9)), "4,097 letters, each one off");
+    t.same(mark(b"a=-1*", b"aa\n"), Ok(Marked::Refused(10)), "no letter after two that are one off");
+    // sixty positions and no more
+    let sixty = |atom: &[u8]| [&[b'a'; 59][..], atom].concat();
+    earns(t, &sixty(b"a=-9"), &[b'a'; 60], 1, -9);
+    earns(t, &b"a=-9".repeat(60), &[b'a'; 60], 1, -540);
+    earns(t, &sixty(b"[b-d]=-4*"), &sixty(b"bcd"), 1, -12);
+    earns(t, &[b"(", &b"a=-9|".repeat(59)[..], b"a=-8)*"].concat(), b"aa", 3600, -16);
+    refuses(t, &b"a=-9".repeat(61), 8);
+    for before in [60, 61, 100, 508] {
+        refuses(t, &[&vec![b'a'; before][..], b"a=-9"].concat(), 8);
+        refuses(t, &[&vec![b'a'; before][..], b"a=-0"].concat(), 5);
+    }
+}
+
+/// Refused by the library and by the model.
+fn refused_as_in_model(t: &mut Tally, pattern: &[u8], refusal: u8) {
+    refuses(t, pattern, refusal);
+    t.same(model::read(pattern).err(), Some(refusal), &format!("the model: {}", show(pattern)));
+}
+
+/// What stands after `=` and after `=-`, byte by byte, and what is no credit.
+fn credit_bytes(t: &mut Tally) {
+    // what is no credit; a credit where none may stand, or with something after it that may not
+    let broken = b"a=-0 a=- a=--1 a=+1 a=-: a=-/ a=-a a=-. a=-? a=-* a=-|b (a=-) a=-\\1 a=-(1) a=-[1] a=-=1 a=0-1 a=\xad1 a=-\xb9 [a]=- .=-0 \\==-";
+    let misplaced = b"=-1 (=-1) a|=-1 (a)=-1 (a|b)=-2 (a=-1)=-1 a*=-1 a?=-1 a=-1=1 a=1=-1 a=-1=-1 a=1= a=-1= a=-1** a=-1+? a=-1) \\=-=-";
+    let words = broken.split(|b| *b == b' ').chain(misplaced.split(|b| *b == b' '));
+    for pattern in words.chain([&b"a=- 1"[..], b"a= -1", b" =- ", b"\xe9=-"]) {
+        refused_as_in_model(t, pattern, 5);
+        for (before, after) in [(&b"b=-1"[..], &b""[..]), (b"(b)", b""), (b"(b|", b")*"), (b"b=2|", b"|d")] {
+            refused_as_in_model(t, &[before, pattern, after].concat(), 5);
+        }
+    }
+    refused_as_in_model(t, b"a=\xe2\x88\x921", 4); // the minus sign in UTF-8
+    refused_as_in_model(t, b"[a=-1]", 6); // a range in a class
+    refused_as_in_model(t, b"[^ -\xff]=-1", 7);
+    let good: [(&[u8], &[u8], i32); 31] = [
+        (b"a=1-", b"a-", 1),
+        (b"a=-1-", b"a-", -1),
+        (b"a-=1", b"a-", 1),
+        (b"a-=-1", b"a-", -1),
+        (b"a=-10", b"a0", -1),
+        (b"a=-99", b"a9", -9),
+        (b"a=1-1", b"a-1", 1),
+        (b"a=-1-2", b"a-2", -1),
+        (b"a=-1--", b"a--", -1),
+        (b"a=-1-=-2", b"a-", -3),
+        (b"a=-1+", b"a", -1),
+        (b"a=-1+1", b"aa1", -2),
+        (b"[a-c]=-3*", b"abc", -9),
+        (b"[a-c]=-3", b"b", -3),
+        (b"[^a]=-3", b"b", -3),
+        (b"[\\-]=-3", b"-", -3),
+        (b"[=-z]=-3", b"=", -3),
+        (b"[a=\\-1]=-3*", b"=-1a", -12),
+        (b"\\==-3", b"=", -3),
+        (b"\\==-3\\==3", b"==", 0),
+        (b"a\\=-", b"a=-", 0),
+        (b"a\\=-1", b"a=-1", 0),
+        (b".=-4", b"x", -4),
+        (b"-=-1", b"-", -1),
+        (b"--=-1", b"--", -1),
+        (b"-", b"-", 0),
+        (b"1=-1", b"1", -1),
+        (b"(a=-1)", b"a", -1),
+        (b"(a=-1)*b=-2", b"aab", -4),
+        (b"\xe9=-2\xad", b"\xe9\xad", -2),
+        (b"\xff=-9*", b"\xff\xff", -18),
+    ];
+    for (pattern, answer, best) in good {
+        earns(t, pattern, answer, 1, best);
+    }
+    for b in 0..=255u8 {
+        let refusal = if model::is_letter(b) { 5 } else { 4 };
+        for (before, sign) in [(&b"a="[..], 1), (b"a=-", -1)] {
+            // nothing after it, or a 1, which is a letter but in a=-1
+            let (last, more) = ([before, &[b]].concat(), [before, &[b, b'1']].concat());
+            if (b'1'..=b'9').contains(&b) {
+                earns(t, &last, b"a", 1, sign * i32::from(b - b'0'));
+                earns(t, &more, b"a1", 1, sign * i32::from(b - b'0'));
+            } else {
+                refused_as_in_model(t, &last, refusal);
+                if more != b"a=-1" {
+                    refused_as_in_model(t, &more, refusal);
+                }
+            }
+        }
+        // after a whole credit: a letter of its own, or a repeat
+        for (sign, credit) in [(&b"a=1"[..], 1), (b"a=-1", -1)] {
+            let pattern = [sign, &[b]].concat();
+            match b {
+                b'*' | b'+' | b'?' => earns(t, &pattern, b"a", 1, credit),
+                b'.' => earns(t, &pattern, b"ax", 1, credit),
+                _ if model::is_letter(b) && !b"|()[]{}^$\\=".contains(&b) => earns(t, &pattern, &[b'a', b], 1, credit),
+                _ => refused_as_in_model(t, &pattern, refusal),
+            }
+        }
+    }
+    // at the last of 512 bytes
+    let class = |n: usize, credit: &[u8]| [&b"["[..], &vec![b'a'; n], b"]", credit].concat();
+    earns(t, &class(507, b"=-1"), b"a", 1, -1);
+    earns(t, &class(507, b"=-9"), b"b", 0, 0);
+    for (n, credit, refusal) in [(508, &b"=-"[..], 5), (507, b"=-0", 5), (507, b"=--", 5), (509, b"=", 5), (508, b"=-1", 3), (509, b"=-", 3)] {
+        refused_as_in_model(t, &class(n, credit), refusal);
+    }
+    for (n, refusal) in [(508, 5), (509, 5), (510, 3)] {
+        refused_as_in_model(t, &[&vec![b'a'; n][..], b"a=-"].concat(), refusal);
+    }
+}
+
+/// Patterns in which `#` stands for a credit or for none: what is vetted and counted is the same, whatever the credits are.
+fn credits_apart(t: &mut Tally) {
+    let answers = [&b""[..], b"a", b"ab", b"abab", b"aaa", b"color", b"abc", b"m", b"=-", b"\xe9\xe9", b"a\n", &[b'a'; 64]].map(<[u8]>::to_vec);
+    for (pattern, verdict) in [
+        (&b"c#olo#u#?r#"[..], 0),
+        (b"(a#|a#)b#", 1),
+        (b"(a#|b#|a#b#)*c#", 2),
+        (b"a#*a#*", 1),
+        (b"(a#*)*", 2),
+        (b"((a#?b#?)*)*", 2),
+        (b"(a#b#*)*", 0),
+        (b"[a-m]#*[m-z]#*", 1),
+        (b"[a-l]#*[m-z]#*", 0),
+        (b"(.#|[^a]#)+\\*#", 2),
+        (b"\\=#?\\=#?-#", 1),
+        (b"(\xe9#|[\xe0-\xff]#)*", 2),
+    ] {
+        let with = |credits: &[&[u8]]| {
+            let mut next = credits.iter().cycle();
+            pattern.iter().flat_map(|b| if *b == b'#' { next.next().unwrap().to_vec() } else { vec![*b] }).collect::<Vec<u8>>()
+        };
+        let plain = with(&[b""]);
+        verdict_is(t, &plain, verdict);
+        for credits in [&[&b"=-1"[..]][..], &[b"=-9"], &[b"=9"], &[b"=-9", b"=9"], &[b"=1", b"=-1"], &[b"", b"=-5", b"=2"], &[b"=-1", b"=-2", b""]] {
+            let text = with(credits);
+            verdict_is(t, &text, verdict);
+            without_credits(t, &text, &plain, &answers);
+        }
+    }
+}
+
 /// Both sides of each refusal's edge, and the order in which they are checked.
 fn edges(t: &mut Tally) {
     let long = |n: usize, tail: &[u8]| [&vec![b'a'; n][..], tail].concat();
@@ -440,7 +687,9 @@ fn edges(t: &mut Tally) {
 fn last_positions(t: &mut Tally) {
     let with = |before: usize, atom: &[u8], after: usize| [&vec![b'a'; before], atom, &vec![b'a'; after]].concat();
     let atoms = [&b"b=7"[..], b"[b-d]=1", b"[^a-z]=9", b".=5", b"\\*=3", b"[~ a]*", b"(b=2|[a-c]=4)"];
-    for atom in atoms.into_iter().chain([&b"\xe9=7"[..], b"[^ -~]=8", b"[b-\xa0]=6*", b"(\xe9=2|[\xe0-\xff]=4)"]) {
+    let accented = [&b"\xe9=7"[..], b"[^ -~]=8", b"[b-\xa0]=6*", b"(\xe9=2|[\xe0-\xff]=4)"];
+    let below = [&b"b=-7"[..], b"[^a-z]=-9", b".=-5", b"\\*=-3", b"(b=-2|[a-c]=-4)", b"[b-\xa0]=-6*", b"(\xe9=2|[\xe0-\xff]=-4)"];
+    for atom in atoms.into_iter().chain(accented).chain(below) {
         for before in [0, 1, 30, 57, 58, 59] {
             let pattern = with(before, atom, 59 - before);
             match model::read(&pattern) {
@@ -457,7 +706,7 @@ fn last_positions(t: &mut Tally) {
             refuses(t, &with(60, atom, before), 8);
         }
     }
-    let broken = [&b"[^^ -~]"[..], b"a=0", b"[]", b"[a", b"\\a", b"a**", b"()"].map(|atom| (atom, 5));
+    let broken = [&b"[^^ -~]"[..], b"a=0", b"a=-0", b"a=--1", b"[]", b"[a", b"\\a", b"a**", b"()"].map(|atom| (atom, 5));
     for (atom, refusal) in [(&b"[z-a]"[..], 6), (b"[b-dz-a]", 6), (b"[^ -\xff]", 7)].into_iter().chain(broken) {
         for before in [0, 1, 58, 59, 60, 61, 62, 300, 500] {
             let pattern = with(before, atom, 0);
@@ -487,7 +736,9 @@ fn some_256_letters(t: &mut Tally) {
     let joined = [b"(", &sixty[..], b")*"].concat();
     let all: Vec<u8> = model::letters().collect();
     let accented = &b"(a=1|[^ -~]=2|[b-\xe9]=3)*"[..];
-    for pattern in [&b".*"[..], b"a=1*a=2*", b"(a=1|b=2|[c-f]=3)*", b"[^a]*", b"(a|a)*b?", &joined, &alternatives, accented] {
+    let above = [&b".*"[..], b"a=1*a=2*", b"(a=1|b=2|[c-f]=3)*", b"[^a]*", b"(a|a)*b?", &joined, &alternatives, accented];
+    let below = [&b"a=-1*a=2*"[..], b"a=-2*a=-1*", b"(a=1|b=-2|[c-f]=-3)*", b"(a=-9|a=-8)*b?", b"(a=-1|[^ -~]=-2|[b-\xe9]=-3)*"];
+    for pattern in above.into_iter().chain(below) {
         let p = model::read(pattern).expect("a good pattern");
         for n in [255, 256, 257] {
             let of = |letter: &dyn Fn(usize) -> u8| (0..n).map(letter).collect::<Vec<u8>>();
@@ -516,8 +767,10 @@ fn some_256_letters(t: &mut Tally) {
 /// What a call is given and finds plays no part in the next.
 fn one_after_another(t: &mut Tally) {
     let alternatives = [b"(", &b".=9|".repeat(59)[..], b".)*"].concat();
+    let below = [b"[ -\xff]=-9".repeat(60), [b"(", &b".=-9|".repeat(59)[..], b".)*"].concat(), b".=-9".repeat(128)];
     let full = [b"[ -\xff]=9*".repeat(60), b".=9".repeat(170), vec![b'('; 512], b"([^ -\xff]|[z-a]=9)*".to_vec(), alternatives];
-    for small in [&b"a"[..], b"a?", b"(a|b=1)*c", b"[b-d]e", b"a)", b"(a|a)*", b"(\xe9|[a-\xff])b"] {
+    let full: Vec<Vec<u8>> = full.into_iter().chain(below).collect();
+    for small in [&b"a"[..], b"a?", b"(a|b=1)*c", b"[b-d]e", b"a)", b"(a|a)*", b"(\xe9|[a-\xff])b", b"a=-1", b"(a=-2|b=1)?"] {
         let alone = (vet(small, EVIDENCE, 4), mark(small, b"a"), mark(small, b""));
         for before in &full {
             let _ = (vet(before, EVIDENCE, 8), mark(before, &[255; 4096]));
@@ -586,10 +839,11 @@ fn random_cases(t: &mut Tally, patterns: usize, seed: u64) {
                     evidence(t, &text, &p, p.verdict());
                 }
                 let regex = second_opinion(t, &text, &p);
-                for _ in 0..3 {
-                    let answer = random::answer(&mut r, &p);
-                    as_in_model(t, &text, &p, &answer, regex.as_ref());
+                let answers: Vec<Vec<u8>> = (0..3).map(|_| random::answer(&mut r, &p)).collect();
+                for answer in &answers {
+                    as_in_model(t, &text, &p, answer, regex.as_ref());
                 }
+                without_credits(t, &text, &p.without_credits(&text), &answers);
             }
         }
     }
@@ -625,18 +879,32 @@ fn as_in_model(t: &mut Tally, text: &[u8], p: &model::Pattern, answer: &[u8], re
         t.check(false, name);
         return;
     };
+    // without a reading both are 0
+    let has = |want: Option<(u128, i64)>| (u128::from(count), i64::from(mark)) == want.unwrap_or((0, 0));
     if let Some(lists) = p.readings(answer, 5_000) {
-        let best = lists.iter().map(|l| p.credit(l)).max().unwrap_or(0);
-        t.check(count == lists.len() as u64 && u64::from(mark) == best, || format!("{}; want {} and {best}", name(), lists.len()));
+        let want = p.best(&lists).map(|best| (lists.len() as u128, best));
+        t.check(has(want), || format!("{}; want {want:?}", name()));
     }
     if answer.len() <= 10 {
         let ways = p.ways(answer, u128::from(MOST));
         t.check(u128::from(count) == ways, || format!("{}; {ways} ways through the tree", name()));
     }
-    let want = p.from_the_end(answer, u128::from(MOST)).unwrap_or((0, 0));
-    t.check((u128::from(count), u64::from(mark)) == want, || format!("{}; want {want:?}", name()));
+    let want = p.from_the_end(answer, u128::from(MOST));
+    t.check(has(want), || format!("{}; want {want:?}", name()));
     if let Some(x) = regex {
         t.check((count > 0) == x.matches(answer), || format!("{}; regexec says {}", name(), x.matches(answer)));
+    }
+}
+
+/// Credits play no part in a verdict, in what it shows, or in a count: these are as without them, where every mark is 0.
+fn without_credits(t: &mut Tally, text: &[u8], plain: &[u8], answers: &[Vec<u8>]) {
+    t.same(vet(text, EVIDENCE, 2), vet(plain, EVIDENCE, 2), &format!("vet {}, as {}", show(text), show(plain)));
+    for answer in answers {
+        let got = mark(text, answer).map(|m| match m {
+            Marked::Answer { count, .. } => Marked::Answer { count, mark: 0 },
+            refused => refused,
+        });
+        t.same(got, mark(plain, answer), &format!("the count of {} on {}, as {}", show(text), show(answer), show(plain)));
     }
 }
 
@@ -648,6 +916,9 @@ fn main() {
     specimens(&mut t);
     every_byte(&mut t);
     french_and_spanish(&mut t);
+    points_off(&mut t);
+    credit_bytes(&mut t);
+    credits_apart(&mut t);
     many_links(&mut t);
     counts_by_links(&mut t);
     edges(&mut t);

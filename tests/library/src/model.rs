@@ -4,6 +4,7 @@
 //! is shared with the program under test, neither code nor idea.
 
 use std::collections::{BTreeSet, HashSet};
+use std::ops::Range;
 
 #[derive(Clone, Debug)]
 pub enum Part {
@@ -16,7 +17,9 @@ pub enum Part {
 #[derive(Clone, Debug)]
 pub struct Position {
     pub letters: BTreeSet<u8>,
-    pub credit: u64,
+    pub credit: i64,
+    /// the bytes of the pattern that are its credit, if it has one
+    pub written: Range<usize>,
 }
 
 #[derive(Clone, Debug)]
@@ -126,19 +129,22 @@ impl Parser<'_> {
             _ if SPECIAL.contains(&b) => return Err(Broken),
             _ => BTreeSet::from([b]),
         };
-        let mut credit = 0;
-        if self.take(b'=') {
-            match self.peek() {
-                Some(d @ b'1'..=b'9') => {
-                    credit = u64::from(d - b'0');
-                    self.at += 1;
-                }
-                _ => return Err(Broken),
-            }
-        }
+        let from = self.at;
+        let credit = self.credit()?;
         self.hollow |= letters.is_empty();
-        self.positions.push(Position { letters, credit });
+        self.positions.push(Position { letters, credit, written: from..self.at });
         Ok(Part::Letter(self.positions.len()))
+    }
+
+    /// `=`, perhaps `-`, and one digit from 1 to 9; 0 where there is none.
+    fn credit(&mut self) -> Result<i64, Broken> {
+        if !self.take(b'=') {
+            return Ok(0);
+        }
+        let sign = if self.take(b'-') { -1 } else { 1 };
+        let d = self.peek().filter(|d| (b'1'..=b'9').contains(d)).ok_or(Broken)?;
+        self.at += 1;
+        Ok(sign * i64::from(d - b'0'))
     }
 
     fn class_letter(&mut self) -> Option<u8> {
@@ -264,6 +270,12 @@ impl Pattern {
         self.positions[i - 1].letters.contains(&letter)
     }
 
+    /// The pattern's text without its credits.
+    pub fn without_credits(&self, text: &[u8]) -> Vec<u8> {
+        let credit = |k: usize| self.positions.iter().any(|i| i.written.contains(&k));
+        (0..text.len()).filter(|k| !credit(*k)).map(|k| text[k]).collect()
+    }
+
     fn follows(&self, a: usize, b: usize) -> bool {
         self.links[a][b] > 0
     }
@@ -311,18 +323,23 @@ impl Pattern {
         Some(lists)
     }
 
-    pub fn credit(&self, list: &[Step]) -> u64 {
+    pub fn credit(&self, list: &[Step]) -> i64 {
         list.iter().map(|s| self.positions[s.position - 1].credit).sum()
+    }
+
+    /// The most that one of some readings earns. Nothing where there is none.
+    pub fn best(&self, lists: &[Vec<Step>]) -> Option<i64> {
+        lists.iter().map(|l| self.credit(l)).max()
     }
 
     /// The number of readings of a long answer, up to a limit, and the most that one of them earns, by going through it from its
     /// end. Nothing where there is no reading.
-    pub fn from_the_end(&self, answer: &[u8], limit: u128) -> Option<(u128, u64)> {
+    pub fn from_the_end(&self, answer: &[u8], limit: u128) -> Option<(u128, i64)> {
         let p = self.positions.len();
         if answer.is_empty() {
             return self.empty.then_some((1, 0));
         }
-        let mut after: Vec<Option<(u128, u64)>> = (0..=p).map(|i| self.lasts.contains(&i).then_some((1, 0))).collect();
+        let mut after: Vec<Option<(u128, i64)>> = (0..=p).map(|i| self.lasts.contains(&i).then_some((1, 0))).collect();
         for k in (0..answer.len()).rev() {
             let links = |a: usize, i: usize| if k == 0 { u64::from(self.firsts.contains(&i)) } else { self.links[a][i] };
             let from = |a: usize| {

@@ -50,6 +50,9 @@ const ACCENTED_CLASSES: &[&[u8]] =
 const ACCENTED_WILD: &[&[u8]] =
     &[b"[ -\xff]", b"[^ -\xff]", b"[\xe9-a]", b"[\xff-\xe9]", b"[z-\x9f]", b"[\x7f-\xe9]", b"[a\x80]", b"[\xe9-]", b"[\\\xe9]", b"\\\xe9"];
 
+/// What a wild pattern may have for a credit. The grammar is broken, unless a digit comes right after `=` or `=-`.
+const NO_CREDITS: &[&[u8]] = &[b"=0", b"=", b"=-", b"=-0", b"=+1", b"=--1", b"=-1=1", b"=1=-1", b"=- 1", b"*=-1"];
+
 /// A range of any two letters, perhaps with `^`; a wild one may be reversed.
 fn range(r: &mut Random, out: &mut Vec<u8>, wild: bool) {
     let all: Vec<u8> = letters().collect();
@@ -83,13 +86,17 @@ fn lettered(r: &mut Random, out: &mut Vec<u8>, kind: Kind) {
             6 => out.push(b'.'),
             7 | 8 => out.extend(*r.pick(&CLASSES[..if wild { CLASSES.len() } else { 5 }])),
             9 => out.extend(*r.pick(ESCAPES)),
-            10 => out.push(*r.pick(b"dxyz~ ")),
+            10 => out.push(*r.pick(b"dxyz~ -059")),
             _ => out.push(*r.pick(b"|*+?()[]{}^$.\\=-")),
         }
     }
     if r.chance(25) {
-        out.push(b'=');
-        out.push(if wild && r.chance(10) { b'0' } else { b'1' + r.below(9) as u8 });
+        if wild && r.chance(10) {
+            out.extend(*r.pick(NO_CREDITS));
+        } else {
+            out.extend(if r.chance(50) { &b"=-"[..] } else { b"=" });
+            out.push(b'1' + r.below(9) as u8);
+        }
     }
 }
 
