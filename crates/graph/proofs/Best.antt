@@ -1,5 +1,5 @@
--- The greatest of sums with a sign. `better` joins the best of some readings with that of others, and a credit goes through it; sums
--- that were raised by as much each compare as the raised ones do, which have no sign. Assumes nothing.
+-- The greatest of sums with a sign. `better` joins the best of some readings with that of others in any order, and a credit that all
+-- have can be added before or after; and sums compare as they do when all are raised by as much. Assumes nothing.
 use mathlib.Core.Path.{_≡_, refl, sym, ap, ap₂, _∙_, subst}
 use mathlib.Core.Logic.{⊎-elim}
 use mathlib.Core.Bool.{Bool, true, false, cond, false≢true}
@@ -183,7 +183,7 @@ either-better P (earns x) (earns y) p q = one x y p q
 pub lowered-adds : (m n a b : ℕ) → lowered m a +ℤ lowered n b ≡ lowered (m + n) (a + b)
 lowered-adds m n a b = sub-adds (9 * m) (9 * n) a b ∙ ap (subℕ (a + b)) (sym (mul-add 9 m n))
 
--- the greatest of some sums is that of the raised ones; 0 stands for none of them, and a sum for the next number
+-- the best of some sums is their greatest when raised, where 0 stands for no sum and suc x for one that is x when raised
 abbrev pub bestSum : ℕ → ℕ → Best
 bestSum n zero = noReading
 bestSum n (suc x) = earns (lowered n x)
@@ -205,7 +205,7 @@ lowered-off (suc k) l = sub-neg (9 - suc k) 9 (omega arith) ∙ ap negsuc (omega
 pub raised-low : (x : ℕ) → natAbs (lowered 1 x) ≤ 9 → x ≤ 18
 raised-low x h = ⊎-elim (λ l. let e = ap natAbs (sub-pos x 9 l) in omega arith) (λ l. omega arith) (le-or-lt 9 x)
 
--- and the sum of n such credits is as far from 0 as n credits can be
+-- and a sum of n such credits is at most 9 n on either side of 0
 pub lowered-low : (n x : ℕ) → x ≤ 18 * n → natAbs (lowered n x) ≤ 9 * n
 lowered-low n x h =
     ⊎-elim (λ l. let e = ap natAbs (sub-pos x (9 * n) l) in omega arith) (λ l. let e = ap natAbs (sub-neg x (9 * n) l) in omega arith) (le-or-lt (9 * n) x)

@@ -47,7 +47,7 @@ module _ (p : ℕ → Bool) (f : ℕ → ℕ) (n u : ℕ) (l : u < n) (h : p u �
       ∙ fold-same 0 max p p (λ i. suc (f i) - 1) f n (λ i l. refl) (λ i l e. omega arith) in
       omega (arith, less, most-above p (λ i. suc (f i)) n u l h)
 
-  -- the best of m raised credits each, and what is to come, is what comes to the greatest of them
+  -- with what is to come after each, the best of some sums of m raised credits is the greatest of them
   pub best-added : (m : ℕ) (z : Best) → foldIf noReading better p (λ i. added (lowered m (f i)) z) n ≡ added (lowered m (mostIf p f n)) z
   best-added m noReading = sym (fold-through 0 max noReading better (λ a. noReading) refl (λ a b. refl) p f n)
   best-added m (earns z) =
