@@ -84,7 +84,7 @@ struct marking_marked {
 
 /*
  * Vets a pattern. The number returned, for marking_vet_unpack:
- *   bits 0 to 7    the refusal, 0 for none (all other bits are then 0)
+ *   bits 0 to 7    the refusal, 0 for none; at a refusal all other bits are 0
  *   bits 8 to 15   the verdict
  *   bits 16 to 23  the number of positions
  *   bits 24 to 35, 36 to 47, 48 to 59  the lengths: of x, y and z, or of a steady text, 0 and 0
@@ -100,7 +100,7 @@ uint64_t marking_vet_in(const uint8_t *pattern, size_t pattern_len, uint8_t *evi
  * more.
  * The number returned, for marking_mark_unpack:
  *   bits 0 to 31   the mark, an int32_t as two's complement
- *   bits 32 to 39  the refusal, 0 for none (the mark is then 0)
+ *   bits 32 to 39  the refusal, 0 for none; at a refusal the mark is 0
  */
 uint64_t marking_mark(const uint8_t *pattern, size_t pattern_len, const uint8_t *answer, size_t answer_len, uint64_t *count);
 

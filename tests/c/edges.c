@@ -72,9 +72,9 @@ static void refused_marks(const struct refused *cases, size_t n) {
         for (size_t k = 0; k < 4; k++) {
             const struct refused *c = &cases[i];
             running = c->name;
-            struct marking_marked m =
-                marking_mark_unpack(marking_mark(c->pattern, c->pattern_len, c->answer, c->answer_len, counts[k]));
-            check(m.refusal == c->want && m.mark == 0 && *kept == UINT64_C(0x5a5a5a5a5a5a5a5a));
+            uint64_t bits = marking_mark(c->pattern, c->pattern_len, c->answer, c->answer_len, counts[k]);
+            struct marking_marked m = marking_mark_unpack(bits);
+            check(bits == (uint64_t)c->want << 32 && m.refusal == c->want && m.mark == 0 && *kept == UINT64_C(0x5a5a5a5a5a5a5a5a));
         }
 }
 
@@ -198,6 +198,7 @@ static void signed_marks(void) {
         {"mark -1", "a=-1", 1, 0xffffffff, 1, -1},
         {"mark -2", "a=-2", 1, 0xfffffffe, 1, -2},
         {"mark 1", "a=1", 1, 1, 1, 1},
+        {"mark 3", "a=3", 1, 3, 1, 3},
         {"mark -1, the better of two", "a=-2|a=-1", 1, 0xffffffff, 2, -1},
         {"mark 0, one reading", "a=-1a=1", 2, 0, 1, 0},
         {"mark 0, the empty answer", "a=-5*", 0, 0, 1, 0},

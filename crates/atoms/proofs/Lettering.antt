@@ -40,15 +40,15 @@ not-atom s from R r e h =
 pub digit-range : (d : ℕ) → creditDigit d ≡ true → (49 ≤ d) × (d ≤ 57)
 digit-range d h = let p = and-parts (leb 49 d) (leb d 57) h in (leb-true 49 d (p .0), leb-true d 57 (p .1))
 
--- the credit of the rules, from a place on, by its tests
-module _ (s : List ℕ) (at : ℕ) where
-  abbrev creditBy : Bool → Bool → Bool → ℕ → ℕ → Credit
-  creditBy x y z d e =
-      if not x then credit (pos 0) (drop at s)
-      else if y then credit (pos (d - 48)) (drop (at + 2) s)
-      else if z then credit (negℤ (pos (e - 48))) (drop (at + 3) s)
-      else noCredit
+-- the rule for a credit, by its three tests
+abbrev creditBy : Bool → Bool → Bool → ℕ → ℕ → List ℕ → List ℕ → List ℕ → Credit
+creditBy x y z d e s t u =
+    if not x then credit (pos 0) s
+    else if y then credit (pos (d - 48)) t
+    else if z then credit (negℤ (pos (e - 48))) u
+    else noCredit
 
+module _ (s : List ℕ) (at : ℕ) where
   -- it is read up to a place
   credit-read : (c : ℤ) (to raised : ℕ) → readCredit (drop at s) ≡ credit c (drop to s) → at ≤ to → (at ≤ length s → to ≤ length s) → lowered 1 raised ≡ c → raised ≤ 18
       → ReadsCredit s at (readCredit (drop at s)) (creditTo to raised)
@@ -66,17 +66,13 @@ module _ (s : List ℕ) (at : ℕ) where
       credit-read (pos 0) at 9 (if-yes (credit (pos 0) (drop at s)) _ (not (eqb (peek (drop at s)) 61)) (ap not (ne-eqb (peek (drop at s)) 61 d))) (omega arith) (λ l. l) refl (omega arith)
 
   module _ (is : peek (drop at s) ≡ 61) (d : ℕ) (ed : d ≡ peek (drop (at + 1) s)) where
-    credit-tests : (y z : Bool) (e : ℕ) → e ≡ peek (drop (at + 2) s) → creditDigit d ≡ y → (eqb d 45 && creditDigit e) ≡ z → readCredit (drop at s) ≡ creditBy true y z d e
+    credit-tests : (y z : Bool) (e : ℕ) → e ≡ peek (drop (at + 2) s) → creditDigit d ≡ y → (eqb d 45 && creditDigit e) ≡ z
+        → readCredit (drop at s) ≡ creditBy true y z d e (drop at s) (drop (at + 2) s) (drop (at + 3) s)
     credit-tests y z e ee p q =
-        (λ i. creditOf (eq-eqb (peek (drop at s)) 61 is i) ((later-byte s at 1 ∙ sym ed) i) ((later-byte s at 2 ∙ sym ee) i) (drop-drop 2 at s i) (drop-drop 3 at s i))
-        ∙ (λ i. creditBy true (p i) (q i) d e)
-      where
-        creditOf : Bool → ℕ → ℕ → List ℕ → List ℕ → Credit
-        creditOf x d e t u =
-            if not x then credit (pos 0) (drop at s)
-            else if creditDigit d then credit (pos (d - 48)) t
-            else if eqb d 45 && creditDigit e then credit (negℤ (pos (e - 48))) u
-            else noCredit
+        let second = later-byte s at 1 ∙ sym ed in
+        let third = later-byte s at 2 ∙ sym ee in
+        (λ i. creditBy (eq-eqb (peek (drop at s)) 61 is i) (creditDigit (second i)) (eqb (second i) 45 && creditDigit (third i)) (second i) (third i) (drop at s) (drop-drop 2 at s i) (drop-drop 3 at s i))
+        ∙ (λ i. creditBy true (p i) (q i) d e (drop at s) (drop (at + 2) s) (drop (at + 3) s))
 
     not-credit : readCredit (drop at s) ≡ noCredit → (r : CreditRead) → r .good ≡ false → ReadsCredit s at (readCredit (drop at s)) r
     not-credit e r g =
@@ -94,7 +90,7 @@ module _ (s : List ℕ) (at : ℕ) where
       credit-bad h = not-credit (credit-tests false false (peek (drop (at + 2) s)) refl not-digit (ap (λ (t : Bool). t && creditDigit (peek (drop (at + 2) s))) (ne-eqb d 45 h)))
 
       module _ (minus : d ≡ 45) (e : ℕ) (ee : e ≡ peek (drop (at + 2) s)) where
-        by-digit : (t : Bool) → creditDigit e ≡ t → readCredit (drop at s) ≡ creditBy true false t d e
+        by-digit : (t : Bool) → creditDigit e ≡ t → readCredit (drop at s) ≡ creditBy true false t d e (drop at s) (drop (at + 2) s) (drop (at + 3) s)
         by-digit t h = credit-tests false t e ee not-digit (ap₂ _&&_ (eq-eqb d 45 minus) h)
 
         pub credit-off-bad : creditDigit e ≡ false → (r : CreditRead) → r .good ≡ false → ReadsCredit s at (readCredit (drop at s)) r

@@ -1,3 +1,4 @@
 pub mod Tests
 pub mod Lists
 pub mod Folds
+pub mod Integers

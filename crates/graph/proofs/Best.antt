@@ -2,16 +2,16 @@
 -- have can be added before or after; and sums compare as they do when all are raised by as much. Assumes nothing.
 use mathlib.Core.Path.{_≡_, refl, sym, ap, ap₂, _∙_, subst}
 use mathlib.Core.Logic.{⊎-elim}
-use mathlib.Core.Bool.{Bool, true, false, cond, false≢true}
-use Prim.Native.Nat.{ℕ, zero, suc, _+_, _-_, _*_, _≤_, _<_, max, zero-le}
+use mathlib.Core.Bool.{Bool, true, false, false≢true}
+use Prim.Native.Nat.{ℕ, zero, suc, _+_, _-_, _*_, _≤_, max}
 use native.Mathlib.Nat.{mul-add}
 use native.Mathlib.Omega.{arith}
 use lib.Dec.{le→leb}
-use lib.IntN.{ℤ, pos, negsuc, subℕ, negℤ, natAbs, _+ℤ_, _-ℤ_, +ℤ-assoc, +ℤ-comm, +ℤ-idl, negℤ-+ℤ, pos-+ℤ-pos, pos-ne-negsuc}
+use lib.IntN.{ℤ, pos, negsuc, subℕ, negℤ, natAbs, _+ℤ_, +ℤ-assoc, +ℤ-idl, pos-ne-negsuc}
 use lib.Signed.{_≤ℤ_, leZ-yes}
-use borrow.Author.Tests.{le-ltb, lt-ltb}
 use Rattle.basics.proofs.Tests.{le-or-lt}
 use Rattle.basics.proofs.Folds.{max-none, max-comm, max-assoc}
+use Rattle.basics.proofs.Integers.{sub-pos, sub-neg, sub-adds, raised, as-raised}
 use Rattle.graph.specs.Built.{lowered}
 use Rattle.graph.specs.Readings.{Best, noReading, earns, greater, better, added, markOf}
 
@@ -48,13 +48,7 @@ better-assoc (earns x) noReading z = refl
 better-assoc (earns x) (earns y) noReading = refl
 better-assoc (earns x) (earns y) (earns z) = ap earns (greater-assoc x y z)
 
--- ---- raised numbers
-
-pub sub-pos : (a b : ℕ) → b ≤ a → subℕ a b ≡ pos (a - b)
-sub-pos a b h = ap (λ (t : Bool). cond t (negsuc (b - suc a)) (pos (a - b))) (le-ltb a b h)
-
-pub sub-neg : (a b : ℕ) → a < b → subℕ a b ≡ negsuc (b - suc a)
-sub-neg a b h = ap (λ (t : Bool). cond t (negsuc (b - suc a)) (pos (a - b))) (lt-ltb a b h)
+-- ---- numbers that are raised by as much
 
 sub-greater : (m a b : ℕ) → greater (subℕ a m) (subℕ b m) ≡ subℕ (max a b) m
 sub-greater m a b =
@@ -68,28 +62,6 @@ sub-greater m a b =
     (λ q. ap₂ greater (sub-neg a m p) (sub-neg b m q) ∙ ap negsuc (omega arith) ∙ sym (sub-neg (max a b) m (omega arith)))
     (le-or-lt m b))
     (le-or-lt m a)
-
-pub sub-diff : (a b : ℕ) → pos a -ℤ pos b ≡ subℕ a b
-sub-diff a zero = ap pos (omega arith) ∙ sym (sub-pos a 0 zero-le)
-sub-diff a (suc b) = refl
-
-sub-adds : (m n a b : ℕ) → subℕ a m +ℤ subℕ b n ≡ subℕ (a + b) (m + n)
-sub-adds m n a b =
-    ap₂ _+ℤ_ (sym (sub-diff a m)) (sym (sub-diff b n))
-    ∙ +ℤ-assoc (pos a) (negℤ (pos m)) (pos b +ℤ negℤ (pos n))
-    ∙ ap (λ (z : ℤ). pos a +ℤ z) (sym (+ℤ-assoc (negℤ (pos m)) (pos b) (negℤ (pos n))) ∙ ap (λ (z : ℤ). z +ℤ negℤ (pos n)) (+ℤ-comm (negℤ (pos m)) (pos b)) ∙ +ℤ-assoc (pos b) (negℤ (pos m)) (negℤ (pos n)))
-    ∙ sym (+ℤ-assoc (pos a) (pos b) (negℤ (pos m) +ℤ negℤ (pos n)))
-    ∙ ap₂ _+ℤ_ (pos-+ℤ-pos a b) (sym (negℤ-+ℤ (pos m) (pos n)) ∙ ap negℤ (pos-+ℤ-pos m n))
-    ∙ sub-diff (a + b) (m + n)
-
--- every number is one that was raised by m, for each m that is large enough
-abbrev raised : ℕ → ℤ → ℕ
-raised m (pos n) = n + m
-raised m (negsuc n) = m - suc n
-
-as-raised : (m : ℕ) (x : ℤ) → natAbs x ≤ m → x ≡ subℕ (raised m x) m
-as-raised m (pos n) l = ap pos (omega arith) ∙ sym (sub-pos (n + m) m (omega arith))
-as-raised m (negsuc n) l = ap negsuc (omega arith) ∙ sym (sub-neg (m - suc n) m (omega arith))
 
 -- ---- with a credit
 

@@ -11,10 +11,10 @@ use lib.ListN.{length}
 use lib.Signed.{mag}
 use borrow.Author.Tests.{lt-ltb, le-ltb}
 use Rattle.basics.specs.Choice.{if_then_else_}
+use Rattle.basics.proofs.Integers.{sub-neg}
 use Rattle.basics.proofs.Tests.{by-test, if-yes, if-no, if-either}
 use Rattle.alphabet.specs.Alphabet.{allLetters}
 use Rattle.graph.specs.Graph.{Graph}
-use Rattle.graph.proofs.Best.{sub-neg}
 use Rattle.pattern.specs.Grammar.{isPattern, patternPart}
 use Rattle.pattern.specs.Refusals.{anyReversed, anyEmpty, patternRefusal}
 use Rattle.pattern.specs.Positions.{atoms, positions, patternGraph}

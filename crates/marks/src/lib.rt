@@ -3,7 +3,7 @@ use frontier::Sum;
 use graph::Built;
 ghost use mathlib.Core.Path.{_≡_};
 ghost use mathlib.Core.Bool.{false};
-ghost use Prim.Native.Nat.{ℕ, _<_, _≤_, _^_};
+ghost use Prim.Native.Nat.{ℕ, _<_, _≤_, _*_, _^_};
 ghost use lib.ListN.{length, getD};
 ghost use Rattle.graph.specs.Graph.{Bounded, SingleLinks};
 ghost use Rattle.graph.specs.Built.{graphOfBuilt};
@@ -51,7 +51,7 @@ pub fn mark(b: Built, more: &[u8], answer: &[u8]) -> Marked
 
 // The mark of a greatest sum of as many credits as there are letters, each raised by 9; 0 where there is no reading.
 fn mark_of_sum(sum: Sum, letters: usize) -> i32
-    requires { ⌜ (sum .most ≤ 73728) × (letters ≤ 4096) ⌝ }
+    requires { ⌜ (sum .most ≤ 18 * letters) × (letters ≤ 4096) ⌝ }
     ensures { λ r. ⌜ r ≡ markOfSum (sum .count) (sum .most) letters ⌝ }
 {
     if sum.count == 0 {

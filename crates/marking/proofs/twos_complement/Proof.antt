@@ -11,7 +11,7 @@ use mir.Facts.{toZ-ofZ}
 use mir.Syntax.{w32, w64}
 use mir.Val.{Fits, SFits, toZ, ofZ}
 use borrow.Author.Tests.{ltb-true}
-use Rattle.graph.proofs.Best.{sub-pos}
+use Rattle.basics.proofs.Integers.{sub-pos}
 use Rattle.marking.specs.Packing.{bits32}
 use Rattle.marking.proofs.Packing.{bits-low}
 use Rattle.marking.proofs.twos_complement.Statement.{statement}

@@ -48,7 +48,7 @@ run-requires c κs =
     (omega arith, omega arith, s .pre .3, (λ x. holders-low (s .args .b) (s .args .more .now) (s .pre .0) (holders .result) (holders .ensures) x (fits x .fits)), search needs, omega (arith, s .pre .2))
 
 mark-of-sum-requires : tie.Need-mark-of-sum-requires
-mark-of-sum-requires c κs = let w = summed (c .before .before) .low in let l = c .before .before .before .before .before .before .before .before .before .before .before .before .before .before .before .before .pre .3 in (omega arith, l)
+mark-of-sum-requires c κs = (summed (c .before .before) .low, c .before .before .before .before .before .before .before .before .before .before .before .before .before .before .before .before .pre .3)
 
 returns : tie.Need-returns
 returns c =

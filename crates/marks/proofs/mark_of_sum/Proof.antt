@@ -11,8 +11,8 @@ use mir.Syntax.{w32}
 use mir.Val.{SFits, toZ}
 use borrow.Author.Tests.{eq-eqb, ne-eqb}
 use Rattle.basics.proofs.Tests.{le-or-lt, if-yes, if-no}
+use Rattle.basics.proofs.Integers.{sub-pos, sub-neg, sub-diff}
 use Rattle.graph.specs.Built.{lowered}
-use Rattle.graph.proofs.Best.{sub-pos, sub-neg, sub-diff}
 use borrow.Author.Needs.{needs}
 use Rattle.marks.proofs.mark_of_sum.Statement.{statement}
 use Rattle.marks.proofs.mark_of_sum.Tie as tie
