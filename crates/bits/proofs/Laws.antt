@@ -2,15 +2,15 @@
 -- and its lowest digit, so that each law goes by recursion on the place. Assumes nothing.
 use mathlib.Core.Path.{_≡_, refl, sym, ap, ap₂, _∙_, subst}
 use mathlib.Core.Logic.{⊎-elim}
-use mathlib.Core.Bool.{Bool, true, false, not, _&&_, _||_, and-true, and-self, true≢false}
+use mathlib.Core.Bool.{Bool, true, false, not, _&&_, _||_, and-true, and-self, and-comm, true≢false}
 use Prim.Native.Nat.{ℕ, zero, suc, _+_, _-_, _*_, _/_, _%_, _^_, _≤_, _<_, min, max}
-use native.Mathlib.Nat.{div-le-self, lt-div-mul-add, one-mul, mod-eq-of-lt, div-one, mod-lt, pow-suc, le-of-suc-le-suc, not-suc-le-zero, lt-of-le-of-lt}
+use native.Mathlib.Nat.{add-zero, sub-zero, mul-one, mul-assoc, div-le-self, lt-div-mul-add, one-mul, mod-eq-of-lt, div-one, mod-lt, pow-suc, le-of-suc-le-suc, not-suc-le-zero, lt-of-le-of-lt}
 use native.Mathlib.Omega.{arith}
 use native.Mathlib.Numerals.{one-add}
 use borrow.Author.Tests.{lt-ltb, eq-eqb}
-use lib.Dec.{eqb, ltb, eqb·suc-suc, eqb·zero-suc, eqb·suc-zero, leb·suc-zero, leb·suc-suc}
+use lib.Dec.{eqb, ltb, eqb·suc-suc, eqb·zero-suc, eqb·suc-zero, leb, leb·zero, leb·suc-zero, leb·suc-suc}
 use lib.Pow.{pow-pos, pow-lt, shr-shr}
-use lib.Bits.{bitAnd, bitOr, and-step, or-step}
+use lib.Bits.{bitAnd, bitOr, and-step, or-step, and-mask}
 use lib.Count.{trailingZeros, under}
 use Rattle.basics.proofs.Tests.{le-or-lt}
 use Rattle.bits.specs.Bits.{hasBit, Least}
@@ -202,3 +202,23 @@ pub has-minus : (a b j : ℕ) → a < 2 ^ 64 → b < 2 ^ 64 → hasBit (bitAnd a
 has-minus a b j p q =
     has-and a (2 ^ 64 - 1 - b) j ∙ ap (λ (t : Bool). hasBit a j && t) (has-not 64 b j q)
     ∙ ⊎-elim (λ h. simp (has-high 64 a j p h)) (λ h. simp (lt-ltb j 64 h)) (le-or-lt 64 j)
+
+twice : (m k : ℕ) → m * 2 ^ suc k ≡ (m * 2 ^ k) * 2 + 0
+twice m k = ap (λ (x : ℕ). m * x) (pow-suc 2 k) ∙ sym (mul-assoc m (2 ^ k) 2) ∙ sym (add-zero (m * 2 ^ k * 2))
+
+-- `m << k`: in 64 digits, those of m from k on
+has-times : (m k j : ℕ) → hasBit (m * 2 ^ k) j ≡ (leb k j && hasBit m (j - k))
+has-times m zero j = ap (λ (x : ℕ). hasBit x j) (mul-one m) ∙ sym (ap₂ (λ (b : Bool) (i : ℕ). b && hasBit m i) (leb·zero j) (sub-zero j))
+has-times m (suc k) zero = parts (m * 2 ^ suc k) (m * 2 ^ k) false (twice m k) .0 ∙ sym (ap (λ (b : Bool). b && hasBit m (0 - suc k)) (leb·suc-zero k))
+has-times m (suc k) (suc j) =
+    has-half (m * 2 ^ suc k) (m * 2 ^ k) false (twice m k) j ∙ has-times m k j
+    ∙ sym (ap₂ (λ (b : Bool) (i : ℕ). b && hasBit m i) (leb·suc-suc k j) (omega arith))
+
+pub has-shl : (m k j : ℕ) → hasBit ((m * 2 ^ k) % 2 ^ 64) j ≡ (leb k j && (ltb j 64 && hasBit m (j - k)))
+has-shl m k j =
+    ap (λ (x : ℕ). hasBit x j) (sym (and-mask (m * 2 ^ k) 64)) ∙ has-and (m * 2 ^ k) (2 ^ 64 - 1) j ∙ ap₂ _&&_ (has-times m k j) (has-ones 64 j)
+    ∙ turn (leb k j) (hasBit m (j - k)) (ltb j 64)
+  where
+    turn : (a b c : Bool) → ((a && b) && c) ≡ (a && (c && b))
+    turn true b c = and-comm b c
+    turn false b c = refl

@@ -2,7 +2,7 @@
 // Every contract says of each number j, also of those past 63, whether the result has it.
 ghost use mathlib.Core.Path.{_≡_};
 ghost use mathlib.Core.Bool.{not, _&&_, _||_};
-ghost use Prim.Native.Nat.{ℕ, _<_, _≤_};
+ghost use Prim.Native.Nat.{ℕ, _-_, _<_, _≤_};
 ghost use lib.Dec.{eqb, ltb, leb};
 ghost use Rattle.basics.specs.Folds.{Less};
 ghost use Rattle.bits.specs.Bits.{hasBit, Least};
@@ -80,6 +80,14 @@ pub fn span(from: usize, to: usize) -> u64
     ensures { λ r. ⌜ ((j : ℕ) → hasBit r j ≡ (leb from j && ltb j to)) ⌝ }
 {
     difference(below(to), below(from))
+}
+
+// The members moved on by `by`. What would be past 63 is gone.
+pub fn moved(mask: u64, by: usize) -> u64
+    requires { ⌜ by < 64 ⌝ }
+    ensures { λ r. ⌜ ((j : ℕ) → hasBit r j ≡ (leb by j && (ltb j 64 && hasBit mask (j - by)))) ⌝ }
+{
+    mask << by
 }
 
 // The least member of a set that is not empty.

@@ -60,9 +60,10 @@ Counts rows more k rows′ more′ = (a b : ℕ) → kept a ≡ true → kept b 
 abbrev pub NoneCounted : List ℕ → Type 0
 NoneCounted more = (k : ℕ) → getD more k 0 ≡ 0
 
--- no link leads from a position past n
-abbrev pub Clear : ℕ → List ℕ → List ℕ → Type 0
-Clear n rows more = (a b : ℕ) → kept a ≡ true → kept b ≡ true → n < a → number rows more a b ≡ 0
+-- no link leads from a position past n, and none is counted
+pub record Clear (n : ℕ) (rows more : List ℕ) : Type 0 where
+  pub unlinked : (a b : ℕ) → n < a → hasBit (getD rows a 0) b ≡ false
+  pub none : (a b : ℕ) → kept a ≡ true → kept b ≡ true → n < a → number rows more a b ≡ 0
 
 -- the table has room for every pair
 abbrev pub Room : List ℕ → Type 0

@@ -16,7 +16,7 @@ use Rattle.basics.proofs.Tests.{by-test, if-yes, if-no, if-either}
 use Rattle.alphabet.specs.Alphabet.{allLetters}
 use Rattle.graph.specs.Graph.{Graph}
 use Rattle.pattern.specs.Grammar.{isPattern, patternPart}
-use Rattle.pattern.specs.Refusals.{anyReversed, anyEmpty, patternRefusal}
+use Rattle.pattern.specs.Refusals.{anyReversed, anyEmpty, anyMisbounded, patternRefusal}
 use Rattle.pattern.specs.Positions.{atoms, positions, patternGraph}
 use Rattle.pattern.proofs.Accepted.{refusal-none}
 use Rattle.verdict.specs.Answers.{ShowsBy}
@@ -30,25 +30,29 @@ use Rattle.marking.specs.ForC.{countAfter, MarkForC, VetForC}
 
 -- ---- refusals
 
-pattern-low : (s : List ℕ) → patternRefusal s ≤ 8
+abbrev Low : ℕ → Type 0
+Low k = k ≤ 11
+
+pattern-low : (s : List ℕ) → Low (patternRefusal s)
 pattern-low s =
-    if-either (λ (k : ℕ). k ≤ 8) 3 _ (ltb 512 (length s)) (λ e. omega arith) (λ e.
-    if-either (λ (k : ℕ). k ≤ 8) 4 _ (not (allLetters s)) (λ e. omega arith) (λ e.
-    if-either (λ (k : ℕ). k ≤ 8) 5 _ (not (isPattern s)) (λ e. omega arith) (λ e.
-    if-either (λ (k : ℕ). k ≤ 8) 6 _ (anyReversed (atoms (patternPart s))) (λ e. omega arith) (λ e.
-    if-either (λ (k : ℕ). k ≤ 8) 7 _ (anyEmpty (atoms (patternPart s))) (λ e. omega arith) (λ e.
-    if-either (λ (k : ℕ). k ≤ 8) 8 0 (ltb 60 (positions (patternPart s))) (λ e. omega arith) (λ e. omega arith))))))
+    if-either Low 3 _ (ltb 512 (length s)) (λ e. omega arith) (λ e.
+    if-either Low 4 _ (not (allLetters s)) (λ e. omega arith) (λ e.
+    if-either Low 5 _ (not (isPattern s)) (λ e. omega arith) (λ e.
+    if-either Low 6 _ (anyReversed (atoms (patternPart s))) (λ e. omega arith) (λ e.
+    if-either Low 7 _ (anyEmpty (atoms (patternPart s))) (λ e. omega arith) (λ e.
+    if-either Low 11 _ (anyMisbounded (patternPart s)) (λ e. omega arith) (λ e.
+    if-either Low 8 0 (ltb 60 (positions (patternPart s))) (λ e. omega arith) (λ e. omega arith)))))))
 
-vet-low : (s : List ℕ) (m n : ℕ) → vetRefusal s m n ≤ 8
+vet-low : (s : List ℕ) (m n : ℕ) → Low (vetRefusal s m n)
 vet-low s m n =
-    if-either (λ (k : ℕ). k ≤ 8) 1 (if ltb n 8192 then 2 else patternRefusal s) (ltb m 4096) (λ e. omega arith)
-    (λ e. if-either (λ (k : ℕ). k ≤ 8) 2 (patternRefusal s) (ltb n 8192) (λ e. omega arith) (λ e. pattern-low s))
+    if-either Low 1 (if ltb n 8192 then 2 else patternRefusal s) (ltb m 4096) (λ e. omega arith)
+    (λ e. if-either Low 2 (patternRefusal s) (ltb n 8192) (λ e. omega arith) (λ e. pattern-low s))
 
-mark-low : (s a : List ℕ) → markRefusal s a ≤ 10
+mark-low : (s a : List ℕ) → Low (markRefusal s a)
 mark-low s a =
-    if-either (λ (k : ℕ). k ≤ 10) (patternRefusal s) _ (not (eqb (patternRefusal s) 0)) (λ e. omega (arith, pattern-low s)) (λ e.
-    if-either (λ (k : ℕ). k ≤ 10) 9 _ (ltb 4096 (length a)) (λ e. omega arith) (λ e.
-    if-either (λ (k : ℕ). k ≤ 10) 10 0 (not (allLetters a)) (λ e. omega arith) (λ e. omega arith)))
+    if-either Low (patternRefusal s) _ (not (eqb (patternRefusal s) 0)) (λ e. pattern-low s) (λ e.
+    if-either Low 9 _ (ltb 4096 (length a)) (λ e. omega arith) (λ e.
+    if-either Low 10 0 (not (allLetters a)) (λ e. omega arith) (λ e. omega arith)))
 
 -- ---- vetting
 
@@ -83,7 +87,7 @@ lengths-low (suc (suc v)) g e e′ l m n few h =
     let z = h .shows .short-z in
     omega arith
 
-fits-by : (k : ℕ) (s e e′ w w′ : List ℕ) (r : Vetted) → k ≤ 8 → (k ≡ 0 → patternRefusal s ≡ 0) → VetBy k s e e′ w w′ r → Fits r
+fits-by : (k : ℕ) (s e e′ w w′ : List ℕ) (r : Vetted) → Low k → (k ≡ 0 → patternRefusal s ≡ 0) → VetBy k s e e′ w w′ r → Fits r
 fits-by zero s e e′ w w′ r low a h =
     let j = h .judged in
     let few = refusal-none s (a refl) .few in
@@ -156,7 +160,7 @@ mark-fits (pos n) l = omega arith
 mark-fits (negsuc n) l = omega arith
 
 -- packed and unpacked again
-mark-again : (k b : ℕ) → k ≤ 10 → b < 2 ^ 32 → (field (k * 2 ^ 32 + b) 32 8 ≡ k) × (field (k * 2 ^ 32 + b) 0 32 ≡ b)
+mark-again : (k b : ℕ) → Low k → b < 2 ^ 32 → (field (k * 2 ^ 32 + b) 32 8 ≡ k) × (field (k * 2 ^ 32 + b) 0 32 ≡ b)
 mark-again k b low small = omega arith
 
 pub mark-fields : (s a : List ℕ) (old new n : ℕ) (h : MarkForC s a old new n) → (field n 32 8 ≡ h .marked .refusal) × (int32 (field n 0 32) ≡ h .marked .mark)

@@ -23,6 +23,7 @@ joinedShape p q = record {
   first = λ n x. p .first n x || (p .empty && q .first (n + length (p .atoms)) x);
   last = λ n x. q .last (n + length (p .atoms)) x || (q .empty && p .last n x);
   links = λ n x y. p .links n x y + (q .links (n + length (p .atoms)) x y + (if p .last n x && q .first (n + length (p .atoms)) y then 1 else 0));
+  misbounded = p .misbounded || q .misbounded;
 }
 
 abbrev pub eitherShape : Shape → Shape → Shape
@@ -32,11 +33,12 @@ eitherShape p q = record {
   first = λ n x. p .first n x || q .first (n + length (p .atoms)) x;
   last = λ n x. p .last n x || q .last (n + length (p .atoms)) x;
   links = λ n x y. p .links n x y + q .links (n + length (p .atoms)) x y;
+  misbounded = p .misbounded || q .misbounded;
 }
 
 -- nothing, which for a joining can be empty and for branches cannot
 abbrev pub noShape : Bool → Shape
-noShape e = record { atoms = []; empty = e; first = λ n x. false; last = λ n x. false; links = λ n x y. 0 }
+noShape e = record { atoms = []; empty = e; first = λ n x. false; last = λ n x. false; links = λ n x y. 0; misbounded = false }
 
 pub joined-none : (q : Shape) → joinedShape (noShape true) q ≡ q
 joined-none q t = record {
@@ -45,6 +47,7 @@ joined-none q t = record {
   first = λ n x. ap (λ (k : ℕ). q .first k x) (add-zero n) t;
   last = λ n x. (ap (λ (k : ℕ). q .last k x || (q .empty && false)) (add-zero n) ∙ ap (λ (b : Bool). q .last n x || b) (and-false (q .empty)) ∙ or-false (q .last n x)) t;
   links = λ n x y. (ap (λ (k : ℕ). 0 + (q .links k x y + 0)) (add-zero n) ∙ zero-add (q .links n x y + 0) ∙ add-zero (q .links n x y)) t;
+  misbounded = q .misbounded;
 }
 
 pub either-none : (q : Shape) → eitherShape (noShape false) q ≡ q
@@ -54,6 +57,7 @@ either-none q t = record {
   first = λ n x. ap (λ (k : ℕ). q .first k x) (add-zero n) t;
   last = λ n x. ap (λ (k : ℕ). q .last k x) (add-zero n) t;
   links = λ n x y. (ap (λ (k : ℕ). 0 + q .links k x y) (add-zero n) ∙ zero-add (q .links n x y)) t;
+  misbounded = q .misbounded;
 }
 
 first-law : (a e b f c : Bool) → ((a || (e && b)) || ((e && f) && c)) ≡ (a || (e && (b || (f && c))))
@@ -162,6 +166,7 @@ module _ (p q r : Shape) where
         ∙ links-law (p .links n x y) (q .links (n + length (p .atoms)) x y) (r .links ((n + length (p .atoms)) + length (q .atoms)) x y) (p .last n x) (q .first (n + length (p .atoms)) y) (q .last (n + length (p .atoms)) x) (q .empty) (r .first ((n + length (p .atoms)) + length (q .atoms)) y)
         (λ e f. let a = op .lasts n x e in let b = oq .lasts (n + length (p .atoms)) x f in omega arith)
         (λ e f. let a = oq .firsts (n + length (p .atoms)) y e in let b = or .firsts ((n + length (p .atoms)) + length (q .atoms)) y f in omega arith)) t;
+    misbounded = or-assoc (p .misbounded) (q .misbounded) (r .misbounded) t;
   }
 
   pub either-assoc : eitherShape (eitherShape p q) r ≡ eitherShape p (eitherShape q r)
@@ -171,4 +176,5 @@ module _ (p q r : Shape) where
     first = λ n x. (ap (λ (m : ℕ). eitherShape p q .first n x || r .first m x) (third n) ∙ or-assoc (p .first n x) (q .first (n + length (p .atoms)) x) (r .first ((n + length (p .atoms)) + length (q .atoms)) x)) t;
     last = λ n x. (ap (λ (m : ℕ). eitherShape p q .last n x || r .last m x) (third n) ∙ or-assoc (p .last n x) (q .last (n + length (p .atoms)) x) (r .last ((n + length (p .atoms)) + length (q .atoms)) x)) t;
     links = λ n x y. (ap (λ (m : ℕ). eitherShape p q .links n x y + r .links m x y) (third n) ∙ add-assoc (p .links n x y) (q .links (n + length (p .atoms)) x y) (r .links ((n + length (p .atoms)) + length (q .atoms)) x y)) t;
+    misbounded = or-assoc (p .misbounded) (q .misbounded) (r .misbounded) t;
   }

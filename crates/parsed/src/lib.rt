@@ -1,17 +1,17 @@
 // A part of a pattern as it is parsed: what is kept of it, and what becomes of that where it is repeated, where a branch or a
 // piece more is read, and where an atom is stored in the tables.
 ghost use mathlib.Core.Path.{_≡_};
-ghost use mathlib.Core.List.{List};
-ghost use Prim.Native.Nat.{ℕ, _≤_, _<_};
+ghost use Prim.Native.Nat.{ℕ, _≤_, _<_, min};
 ghost use lib.ListN.{length, drop};
-ghost use Rattle.pattern.specs.Grammar.{readLetter, repeated};
+ghost use Rattle.pattern.specs.Grammar.{readLetter};
 ghost use Rattle.links.specs.Rows.{Room};
 ghost use Rattle.parsed.specs.Tables.{Sized};
-ghost use Rattle.parsed.specs.Parsed.{memory, Letters, Changes, Repeats, Stands, nothingRead, Either, Joins, closedRead};
+ghost use Rattle.parsed.specs.Parsed.{Memory, Letters, Changes, Repeats, nothingRead, Either, Joins, closedRead};
 
-// A part that was parsed: whether the grammar holds so far, where it goes on, how many positions there are up to there; whether
-// the part can be empty, its firsts and its lasts; whether an atom of it has a reversed range, or no letter; whether two positions of
-// it were linked more than once. Where `good` is false the rest means nothing.
+// A part that was parsed: whether the grammar holds so far, where it goes on, how many positions there are up to there, 61 for more than
+// 60; whether the part can be empty, its firsts and its lasts; whether an atom of it has a reversed range, or no letter; whether
+// refusal 11 names an interval of it; whether two positions of it were linked more than once. Where `good` is false the rest means
+// nothing, and where there are more than 60 positions `empty`, `firsts`, `lasts` and `doubled` do not.
 pub struct Parsed {
     pub good: bool,
     pub at: usize,
@@ -21,6 +21,7 @@ pub struct Parsed {
     pub lasts: u64,
     pub reversed: bool,
     pub hollow: bool,
+    pub misbounded: bool,
     pub doubled: bool,
 }
 
@@ -37,6 +38,7 @@ pub fn nothing(at: usize, n: usize, empty: bool) -> Parsed
         lasts: 0,
         reversed: false,
         hollow: false,
+        misbounded: false,
         doubled: false,
     }
 }
@@ -54,6 +56,7 @@ pub fn either(a: Parsed, b: Parsed) -> Parsed
         lasts: bits::union(a.lasts, b.lasts),
         reversed: a.reversed | b.reversed,
         hollow: a.hollow | b.hollow,
+        misbounded: a.misbounded | b.misbounded,
         doubled: a.doubled | b.doubled,
     }
 }
@@ -74,31 +77,14 @@ pub fn join(rows: &mut [u64; 61], a: Parsed, b: Parsed) -> Parsed
         lasts: links::union_if(b.empty, b.lasts, a.lasts),
         reversed: a.reversed | b.reversed,
         hollow: a.hollow | b.hollow,
+        misbounded: a.misbounded | b.misbounded,
         doubled: doubled,
     }
 }
 
-// A lettered atom with its repeat.
-pub fn lettered(
-    s: &[u8],
-    at: usize,
-    n: usize,
-    rows: &mut [u64; 61],
-    sets: &mut [u64],
-    credits: &mut [u8],
-    more: &mut [u8],
-) -> Parsed
-    requires { ⌜ (n ≤ at) × Sized (now sets) (now credits) × (length (now rows) ≡ 61) × Room (now more) ⌝ }
-    ensures { λ r. ⌜ Stands (now (s .entry)) at n (memory (now (rows .entry)) (now (more .entry)) (now (sets .entry)) (now (credits .entry))) (memory (now (rows .exit)) (now (more .exit)) (now (sets .exit)) (now (credits .exit))) (repeated (readLetter (drop at (now (s .entry))))) r
-        × (length (now (rows .exit)) ≡ 61) ⌝ }
-{
-    let a = letter(s, at, n, sets, credits);
-    repeat(s, a, rows, more)
-}
-
 // The `)` after a pattern in `( )`.
 pub fn closed(s: &[u8], p: Parsed) -> Parsed
-    ensures { λ r. ⌜ ((rows more : List ℕ) → Changes closedRead (now (s .entry)) rows more rows more p r) ⌝ }
+    ensures { λ r. ⌜ ((n : ℕ) (m : Memory) → Changes closedRead (now (s .entry)) n m m p r) ⌝ }
 {
     let mut out = p;
     let at = p.at;
@@ -110,27 +96,16 @@ pub fn closed(s: &[u8], p: Parsed) -> Parsed
     out
 }
 
-// What repeats an atom, if anything does.
-pub fn repeat(s: &[u8], p: Parsed, rows: &mut [u64; 61], more: &mut [u8]) -> Parsed
-    requires { ⌜ (length (now rows) ≡ 61) × Room (now more) ⌝ }
-    ensures { λ r. ⌜ Changes repeated (now (s .entry)) (now (rows .entry)) (now (more .entry)) (now (rows .exit)) (now (more .exit)) p r × (length (now (rows .exit)) ≡ 61) ⌝ }
+// How many positions there are, where more than 60 count as 61.
+pub fn cut(n: usize) -> usize
+    ensures { λ r. ⌜ r ≡ min n 61 ⌝ }
 {
-    if !p.good {
-        return p;
-    }
-    let b = places::byte_at(s, p.at);
-    let one = b == b'?';
-    let any = b == b'*';
-    let some = b == b'+';
-    if !(one | (any | some)) {
-        return p;
-    }
-    again(p, rows, more, one | any, any | some)
+    if n < 61 { n } else { 61 }
 }
 
 // A lettered atom is a position, its only first and last. Its letters and its credit go to the tables.
-fn letter(s: &[u8], at: usize, n: usize, sets: &mut [u64], credits: &mut [u8]) -> Parsed
-    requires { ⌜ (n ≤ at) × Sized (now sets) (now credits) ⌝ }
+pub fn letter(s: &[u8], at: usize, n: usize, sets: &mut [u64], credits: &mut [u8]) -> Parsed
+    requires { ⌜ (n ≤ 61) × Sized (now sets) (now credits) ⌝ }
     ensures { λ r. ⌜ Letters (now (s .entry)) at n (now (sets .entry)) (now (credits .entry)) (now (sets .exit)) (now (credits .exit)) (readLetter (drop at (now (s .entry)))) r ⌝ }
 {
     let a = atoms::atom(s, at);
@@ -149,18 +124,19 @@ fn letter(s: &[u8], at: usize, n: usize, sets: &mut [u64], credits: &mut [u8]) -
     Parsed {
         good: true,
         at: a.at,
-        n: k,
+        n: cut(k),
         empty: false,
         firsts: own,
         lasts: own,
         reversed: a.reversed,
         hollow: a.hollow,
+        misbounded: false,
         doubled: false,
     }
 }
 
 // The part with its repeat, one byte further: whether it may be left out, and whether it may go round.
-fn again(p: Parsed, rows: &mut [u64; 61], more: &mut [u8], skips: bool, loops: bool) -> Parsed
+pub fn again(p: Parsed, rows: &mut [u64; 61], more: &mut [u8], skips: bool, loops: bool) -> Parsed
     requires { ⌜ (p .at < 18446744073709551615) × (length (now rows) ≡ 61) × Room (now more) ⌝ }
     ensures { λ r. ⌜ Repeats skips loops (now (rows .entry)) (now (more .entry)) (now (rows .exit)) (now (more .exit)) p r × (length (now (rows .exit)) ≡ 61) ⌝ }
 {

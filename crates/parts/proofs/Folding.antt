@@ -17,12 +17,12 @@ use Rattle.parsed.specs.Parsed.{Shape, shapeOf, Memory, memory, Has, StandsFor,
 use Rattle.parts.specs.Parsing.{Parses, both, barNext}
 use Rattle.parsed.proofs.Standing.{stands-not}
 use Rattle.parts.proofs.Parsing.{moves}
-use Rattle.parsed.proofs.Joining.{has-nothing, has-either, has-joined}
+use Rattle.parsed.proofs.Joining.{has-nothing, has-at, has-either, has-joined}
 use Rattle.parsed.proofs.Shapes.{joinedShape, eitherShape, noShape, joined-none, joined-assoc, either-none, either-assoc, Owns, owns-part, owns-none, owns-joined, owns-either}
 
 -- the result at another place
 abbrev pub placed : Parsed → ℕ → Parsed
-placed r t = record { good = r .good; at = t; n = r .n; empty = r .empty; firsts = r .firsts; lasts = r .lasts; reversed = r .reversed; hollow = r .hollow; doubled = r .doubled }
+placed r t = record { good = r .good; at = t; n = r .n; empty = r .empty; firsts = r .firsts; lasts = r .lasts; reversed = r .reversed; hollow = r .hollow; misbounded = r .misbounded; doubled = r .doubled }
 
 -- A loop that folds: `self` reads a `first` and, on a test of what comes next and some bytes on, combines it with more of its own kind.
 -- For shapes op does so, with a unit, which can be empty where `none` says so; for a and b in the program, and for the memory after b,
@@ -103,10 +103,10 @@ module _ (F : Fold) (s : List ℕ) (at n : ℕ) (m : Memory) where
 
   pub record Sofar (now : Memory) (a : Parsed) : Type 0 where
     pub on : at ≤ a .at
-    pub few : a .n ≤ a .at
+    pub few : a .n ≤ 61
     pub partly : (f : ℕ) → 3 * (length s - at) + suc (F .rank) < f → Partly f now a
 
-  begin : n ≤ at → Sofar m (nothingRead at n (F .none))
+  begin : n ≤ 61 → Sofar m (nothingRead at n (F .none))
   begin l = record {
     on = omega arith;
     few = l;
@@ -115,12 +115,12 @@ module _ (F : Fold) (s : List ℕ) (at n : ℕ) (m : Memory) where
       enough = h;
       shape = noShape (F .none);
       owns = owns-none (F .none);
-      has = has-nothing at n m (F .none);
+      has = has-nothing at n m (F .none) l;
       goes = λ m′ r w. let R = F .self f (drop at s) in subst (λ (x : Shape). StandsFor s at n m m′ (R .good) x (R .rest) r) (F .unit (shapeOf (R .part))) w;
     };
   }
 
-  pub begins : n ≤ at → (a : Parsed) → a ≡ nothingRead at n (F .none) → Sofar m a
+  pub begins : n ≤ 61 → (a : Parsed) → a ≡ nothingRead at n (F .none) → Sofar m a
   begins l a e = subst (Sofar m) (sym e) (begin l)
 
   -- one more, b, is combined with a: that is r
@@ -153,8 +153,7 @@ module _ (F : Fold) (s : List ℕ) (at n : ℕ) (m : Memory) where
               let y = v .gives (sym (follows .good) ∙ g) in
               let on = so .on in
               let place = follows .place in
-              let count = follows .count in
-              record { on = omega arith; within = omega arith; few = omega arith; goes = y .goes ∙ ap (λ (t : ℕ). drop t s) (sym place); has = has x (shapeOf (here f .part)) ox (owns-part (here f .part)) hx (y .has) };
+              record { on = omega arith; within = omega arith; goes = y .goes ∙ ap (λ (t : ℕ). drop t s) (sym place); has = has x (shapeOf (here f .part)) ox (owns-part (here f .part)) hx (y .has) };
         }
 
     -- it was the last
@@ -176,7 +175,7 @@ module _ (F : Fold) (s : List ℕ) (at n : ℕ) (m : Memory) where
             same = w .same ∙ g;
             gives = λ k.
                 let y = w .gives k in
-                record { on = y .on; within = y .within; few = y .few; goes = y .goes; has = subst (λ (z : Shape). Has n m m′ z r′) (F .assoc x (shapeOf (A .part)) (shapeOf (B .part)) ox (owns-part (A .part)) (owns-part (B .part)) ∙ ap (F .op x) (sym (F .shapes (A .part) (B .part)))) (y .has) };
+                record { on = y .on; within = y .within; goes = y .goes; has = subst (λ (z : Shape). Has n m m′ z r′) (F .assoc x (shapeOf (A .part)) (shapeOf (B .part)) ox (owns-part (A .part)) (owns-part (B .part)) ∙ ap (F .op x) (sym (F .shapes (A .part) (B .part)))) (y .has) };
           })
           (λ g.
           subst (λ (R : Read). StandsFor s at n m m′ (R .good) (F .op x (shapeOf (R .part))) (R .rest) r′) (sym (if-no (read (F .combine (A .part) (B .part)) (B .rest)) broken (B .good) g))
@@ -198,7 +197,7 @@ module _ (F : Fold) (s : List ℕ) (at n : ℕ) (m : Memory) where
             enough = let on = y .on in let within = y .within in omega arith;
             shape = F .op x (shapeOf (A .part));
             owns = F .owns x (shapeOf (A .part)) ox (owns-part (A .part));
-            has = record { count = all .count; empty = all .empty; firsts = all .firsts; lasts = all .lasts; reversed = all .reversed; hollow = all .hollow; adds = all .adds; counts = all .counts; none = all .none; stores = all .stores };
+            has = has-at n m now″ (F .op x (shapeOf (A .part))) r t all;
             goes = λ m′ r′ w. goes m′ r′ (subst (λ (R : Read). StandsFor s at n m m′ (R .good) (F .op x (shapeOf (R .part))) (R .rest) r′) (sym is) (more x ox A (F .self d (drop t s)) m′ r′ w));
           }
 

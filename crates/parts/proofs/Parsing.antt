@@ -5,7 +5,7 @@ use mathlib.Core.Bool.{Bool, true, false, _&&_}
 use mathlib.Core.List.{List, []}
 use Prim.Native.Nat.{ℕ, zero, suc, _+_, _-_, _*_, _<_, _≤_}
 use Prim.Native.Char.{code}
-use native.Mathlib.Nat.{zero-add, lt-suc-self}
+use native.Mathlib.Nat.{lt-suc-self}
 use native.Mathlib.Omega.{arith}
 use borrow.Author.Tests.{eqb-true, eq-eqb, ne-eqb}
 use lib.Dec.{eqb, ltb}
@@ -13,15 +13,20 @@ use lib.ListN.{length, getD, drop, replicate}
 use lib.Seq.{drop-drop}
 use Rattle.basics.specs.Choice.{if_then_else_}
 use Rattle.basics.proofs.Tests.{if-yes, if-no, and-parts}
+use Rattle.basics.proofs.Lists.{zeros}
 use Rattle.pattern.specs.Grammar.{Read, read, broken, peek, readLetter, repeated, patternFrom, pieceFrom}
 use Rattle.places.proofs.Places.{next-within}
 use Rattle.links.proofs.Linking.{links-alone}
+use Rattle.bits.specs.Bits.{hasBit}
+use Rattle.bits.proofs.Laws.{has-none}
 use Rattle.links.specs.Rows.{NoneCounted}
 use Rattle.links.proofs.Counting.{none-linked, counts-alone}
 use Rattle.parsed.specs.declared.Parsed.{Parsed}
 use Rattle.parsed.specs.Tables.{Stored}
 use Rattle.parsed.specs.Parsed.{Shape, Memory, memory, Has, Stands, closedRead, Changes}
 use Rattle.parsed.proofs.Standing.{stands-as}
+use Rattle.repeats.specs.Repeats.{Placed}
+use Rattle.repeats.proofs.Intervals.{placed}
 use Rattle.parts.specs.Parsing.{Parses, barNext, Whole}
 
 -- ---- a result
@@ -30,15 +35,15 @@ use Rattle.parts.specs.Parsing.{Parses, barNext, Whole}
 stands-from : (s : List ℕ) (at t n : ℕ) (m m′ : Memory) (R : Read) (r : Parsed) → at ≤ t → Stands s t n m m′ R r → Stands s at n m m′ R r
 stands-from s at t n m m′ R r h w = record {
   same = w .same;
-  gives = λ g. let v = w .gives g in record { on = omega arith; within = v .within; few = v .few; goes = v .goes; has = v .has };
+  gives = λ g. let v = w .gives g in record { on = omega arith; within = v .within; goes = v .goes; has = v .has };
 }
 
 -- where it is good, it ends further on
 pub moves : (F : ℕ → List ℕ → Read) (rank : ℕ) (s : List ℕ) (at n : ℕ) (m m′ : Memory) (r : Parsed) → Parses F rank s at n m m′ r → r .good ≡ true
-    → (at < r .at) × (r .at ≤ length s) × (r .n ≤ r .at)
+    → (at < r .at) × (r .at ≤ length s) × (r .n ≤ 61)
 moves F rank s at n m m′ r d g =
     let v = d (suc (3 * (length s - at) + rank)) (lt-suc-self (3 * (length s - at) + rank)) .gives g in
-    (v .on, v .within, v .few)
+    (v .on, v .within, (let c = v .has .count in omega arith))
 
 -- the same by equal memory and an equal result
 pub parses-as : (F : ℕ → List ℕ → Read) (rank : ℕ) (s : List ℕ) (at n : ℕ) (m : Memory) {rows more sets credits rows′ more′ sets′ credits′ : List ℕ} {r r′ : Parsed} → rows ≡ rows′ → more ≡ more′ → sets ≡ sets′ → credits ≡ credits′ → r ≡ r′
@@ -62,16 +67,23 @@ piece-letter s at n m m′ r d w (suc f) h =
     let l = drop at s in
     stands-as s at n m m′ r (piece-step f l ∙ if-no (repeated (closedRead (patternFrom f (drop 1 l)))) (repeated (readLetter l)) (eqb (peek l) (code "(")) (ne-eqb (peek l) (code "(") d)) w
 
-pub piece-open : (s : List ℕ) (at n : ℕ) (m : Memory) (rows more rows′ more′ sets credits : List ℕ) (i a r : Parsed) → peek (drop at s) ≡ code "(" → Parses patternFrom 2 s (at + 1) n m (memory rows more sets credits) i
-    → Changes closedRead s rows more rows more i a → Changes repeated s rows more rows′ more′ a r → Parses pieceFrom 0 s at n m (memory rows′ more′ sets credits) r
-piece-open s at n m rows more rows′ more′ sets credits i a r e d closes repeats zero h = absurd (omega arith)
-piece-open s at n m rows more rows′ more′ sets credits i a r e d closes repeats (suc f) h =
-    let l = drop at s in
-    let X = patternFrom f (drop 1 l) in
-    let inside : at < length s = next-within s at (omega arith) in
-    let w : Stands s at n m (memory rows more sets credits) (patternFrom f (drop (at + 1) s)) i = stands-from s at (at + 1) n m (memory rows more sets credits) (patternFrom f (drop (at + 1) s)) i (omega arith) (d f (omega arith)) in
-    stands-as s at n m _ r (piece-step f l ∙ if-yes (repeated (closedRead X)) (repeated (readLetter l)) (eqb (peek l) (code "(")) (eq-eqb (peek l) (code "(") e))
-    (repeats at n m sets credits (closedRead X) (closes at n m sets credits X (stands-as s at n m _ i (ap (patternFrom f) (drop-drop 1 at s)) w)))
+module _ (s : List ℕ) (at n : ℕ) (m now : Memory) (i a : Parsed) (d : Parses patternFrom 2 s (at + 1) n m now i) (closes : Changes closedRead s n now now i a) where
+  pub piece-open : (now′ : Memory) (r : Parsed) → peek (drop at s) ≡ code "(" → Changes repeated s n now now′ a r → Parses pieceFrom 0 s at n m now′ r
+  piece-open now′ r e repeats zero h = absurd (omega arith)
+  piece-open now′ r e repeats (suc f) h =
+      let l = drop at s in
+      let X = patternFrom f (drop 1 l) in
+      let inside : at < length s = next-within s at (omega arith) in
+      let w : Stands s at n m now (patternFrom f (drop (at + 1) s)) i = stands-from s at (at + 1) n m now (patternFrom f (drop (at + 1) s)) i (omega arith) (d f (omega arith)) in
+      stands-as s at n m now′ r (piece-step f l ∙ if-yes (repeated (closedRead X)) (repeated (readLetter l)) (eqb (peek l) (code "(")) (eq-eqb (peek l) (code "(") e))
+      (repeats at m (closedRead X) (closes at m X (stands-as s at n m now i (ap (patternFrom f) (drop-drop 1 at s)) w)))
+
+  -- the pattern in brackets has the positions after n
+  pub closed-placed : n ≤ 61 → a .good ≡ true → Placed n a
+  closed-placed low g =
+      let f = suc (3 * (length s - (at + 1)) + 2) in
+      let X = patternFrom f (drop (at + 1) s) in
+      placed n m now (closedRead X .part) a low (closes (at + 1) m X (d f (lt-suc-self (3 * (length s - (at + 1)) + 2))) .gives g .has)
 
 pub bar-within : (s : List ℕ) (g : Bool) (n : ℕ) → (g && barNext (drop n s)) ≡ true → n < length s
 bar-within s g n e = next-within s n (omega (arith, eqb-true (peek (drop n s)) (code "|") (and-parts g (barNext (drop n s)) e .1)))
@@ -81,14 +93,20 @@ bar-within s g n e = next-within s n (omega (arith, eqb-true (peek (drop n s)) (
 pub has-whole : (k : ℕ) (rows more more′ sets credits sets′ credits′ : List ℕ) (x : Shape) (r : Parsed) → Has 0 (memory (replicate k 0) more sets credits) (memory rows more′ sets′ credits′) x r
     → Stored [] sets credits → NoneCounted more → Whole x rows more′ sets′ credits′ r
 has-whole k rows more more′ sets credits sets′ credits′ x r h st none = record {
-  count = h .count ∙ zero-add (length (x .atoms));
-  empty = h .empty;
-  firsts = h .firsts;
-  lasts = h .lasts;
+  count = omega (arith, h .count);
   reversed = h .reversed;
   hollow = h .hollow;
-  links = links-alone k rows (λ a b. ltb 0 (x .links 0 a b)) (h .adds);
-  numbers = counts-alone k rows more more′ (x .links 0) none (h .counts (λ a b x y l. none-linked k more none a b));
-  none = λ d i. ap (λ (l : List ℕ). getD l i 0) (h .none d) ∙ none i;
-  stored = h .stores [] refl st;
+  misbounded = h .misbounded;
+  keeps = λ few.
+      let w = h .keeps (omega arith) record { unlinked = λ a b l. ap (λ (i : ℕ). hasBit i b) (zeros k a) ∙ has-none b; none = λ a b x y l. none-linked k more none a b } in
+      record {
+        count = omega (arith, h .count, few);
+        empty = w .empty;
+        firsts = w .firsts;
+        lasts = w .lasts;
+        links = links-alone k rows (λ a b. ltb 0 (x .links 0 a b)) (w .adds);
+        numbers = counts-alone k rows more more′ (x .links 0) none (w .counts);
+        none = λ d i. ap (λ (l : List ℕ). getD l i 0) (w .none d) ∙ none i;
+        stored = h .stores (omega arith) [] refl st;
+      };
 }

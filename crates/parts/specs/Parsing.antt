@@ -2,7 +2,7 @@
 use mathlib.Core.Path.{_≡_}
 use mathlib.Core.Bool.{Bool, true, false}
 use mathlib.Core.List.{List}
-use Prim.Native.Nat.{ℕ, _+_, _-_, _*_, _<_, _≤_}
+use Prim.Native.Nat.{ℕ, _+_, _-_, _*_, _<_, _≤_, min}
 use Prim.Native.Char.{code}
 use lib.Dec.{eqb, ltb}
 use lib.ListN.{length, drop}
@@ -36,18 +36,24 @@ Opens s at = peek (drop at s) ≡ code "("
 
 -- ---- the whole pattern
 
--- the result has the shape that a text begins with
-pub record Whole (x : Shape) (rows more sets credits : List ℕ) (r : Parsed) : Type 0 where
+-- the result, the rows and the tables have the shape that a text begins with, of up to 60 positions
+pub record Kept (x : Shape) (rows more sets credits : List ℕ) (r : Parsed) : Type 0 where
   pub count : r .n ≡ length (x .atoms)
   pub empty : r .empty ≡ x .empty
   pub firsts : Marks (r .firsts) (x .first 0)
   pub lasts : Marks (r .lasts) (x .last 0)
-  pub reversed : r .reversed ≡ anyReversed (x .atoms)
-  pub hollow : r .hollow ≡ anyEmpty (x .atoms)
   pub links : Links rows (λ a b. ltb 0 (x .links 0 a b))
   pub numbers : (a b : ℕ) → kept a ≡ true → kept b ≡ true → number rows more a b ≡ after (x .links 0 a b) 0
   pub none : r .doubled ≡ false → NoneCounted more
   pub stored : Stored (x .atoms) sets credits
+
+-- the result has that shape. More than 60 positions are not kept, and count as 61
+pub record Whole (x : Shape) (rows more sets credits : List ℕ) (r : Parsed) : Type 0 where
+  pub count : r .n ≡ min (length (x .atoms)) 61
+  pub reversed : r .reversed ≡ anyReversed (x .atoms)
+  pub hollow : r .hollow ≡ anyEmpty (x .atoms)
+  pub misbounded : r .misbounded ≡ x .misbounded
+  pub keeps : length (x .atoms) ≤ 60 → Kept x rows more sets credits r
 
 -- the result stands for what the rules read of the text s, with no position to its left and nothing in the memory before
 pub record ParsesAll (s rows more sets credits : List ℕ) (r : Parsed) : Type 0 where

@@ -39,7 +39,7 @@ fn pattern(
     credits: &mut [u8],
     more: &mut [u8],
 ) -> ParsedRows
-    requires { ⌜ (n ≤ at) × Sized (now sets) (now credits) × Room (now more) ⌝ }
+    requires { ⌜ (n ≤ 61) × Sized (now sets) (now credits) × Room (now more) ⌝ }
     ensures { λ r. ⌜ Parses patternFrom 2 (now (s .entry)) at n (memory rows (now (more .entry)) (now (sets .entry)) (now (credits .entry))) (memory (r .rows) (now (more .exit)) (now (sets .exit)) (now (credits .exit))) (r .part) ⌝ }
 {
     let mut all = rows;
@@ -67,7 +67,7 @@ fn branch(
     credits: &mut [u8],
     more: &mut [u8],
 ) -> ParsedRows
-    requires { ⌜ (n ≤ at) × Sized (now sets) (now credits) × Room (now more) ⌝ }
+    requires { ⌜ (n ≤ 61) × Sized (now sets) (now credits) × Room (now more) ⌝ }
     ensures { λ r. ⌜ Parses branchFrom 1 (now (s .entry)) at n (memory rows (now (more .entry)) (now (sets .entry)) (now (credits .entry))) (memory (r .rows) (now (more .exit)) (now (sets .exit)) (now (credits .exit))) (r .part) ⌝ }
 {
     let mut all = rows;
@@ -79,7 +79,7 @@ fn branch(
             all = p.rows;
             p.part
         } else {
-            parsed::lettered(s, t, so_far.n, &mut all, sets, credits, more)
+            repeats::lettered(s, t, so_far.n, &mut all, sets, credits, more)
         };
         so_far = parsed::join(&mut all, so_far, next);
         if !goes_on(s, so_far.good, so_far.at) {
@@ -101,13 +101,13 @@ fn piece(
     credits: &mut [u8],
     more: &mut [u8],
 ) -> ParsedRows
-    requires { ⌜ (n ≤ at) × Sized (now sets) (now credits) × Room (now more) × Opens (now s) at ⌝ }
+    requires { ⌜ (n ≤ 61) × Sized (now sets) (now credits) × Room (now more) × Opens (now s) at ⌝ }
     ensures { λ r. ⌜ Parses pieceFrom 0 (now (s .entry)) at n (memory rows (now (more .entry)) (now (sets .entry)) (now (credits .entry))) (memory (r .rows) (now (more .exit)) (now (sets .exit)) (now (credits .exit))) (r .part) ⌝ }
 {
     let mut p = pattern(s, at + 1, n, rows, sets, credits, more);
     let inner = p.part;
     let atom = parsed::closed(s, inner);
-    p.part = parsed::repeat(s, atom, &mut p.rows, more);
+    p.part = repeats::repeat(s, n, atom, &mut p.rows, sets, credits, more);
     p
 }
 

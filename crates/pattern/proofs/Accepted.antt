@@ -11,7 +11,7 @@ use Rattle.basics.specs.Choice.{if_then_else_}
 use Rattle.alphabet.specs.Alphabet.{allLetters}
 use Rattle.pattern.specs.Grammar.{isPattern, patternPart}
 use Rattle.pattern.specs.Positions.{atoms, positions}
-use Rattle.pattern.specs.Refusals.{anyReversed, anyEmpty, patternRefusal}
+use Rattle.pattern.specs.Refusals.{anyReversed, anyEmpty, anyMisbounded, patternRefusal}
 
 pub record Accepted (b : List ℕ) : Type 0 where
   pub short : length b ≤ 512
@@ -19,6 +19,7 @@ pub record Accepted (b : List ℕ) : Type 0 where
   pub follows-grammar : isPattern b ≡ true
   pub in-order : anyReversed (atoms (patternPart b)) ≡ false
   pub none-empty : anyEmpty (atoms (patternPart b)) ≡ false
+  pub bounded : anyMisbounded (patternPart b) ≡ false
   pub few : positions (patternPart b) ≤ 60
 
 passed : (t : Bool) (k r : ℕ) → (if t then suc k else r) ≡ 0 → (t ≡ false) × (r ≡ 0)
@@ -32,12 +33,14 @@ refusal-none b e =
     let five = passed (not (isPattern b)) _ _ (four .1) in
     let six = passed (anyReversed (atoms (patternPart b))) _ _ (five .1) in
     let seven = passed (anyEmpty (atoms (patternPart b))) _ _ (six .1) in
-    let eight = passed (ltb 60 (positions (patternPart b))) _ _ (seven .1) in
+    let eleven = passed (anyMisbounded (patternPart b)) _ _ (seven .1) in
+    let eight = passed (ltb 60 (positions (patternPart b))) _ _ (eleven .1) in
     record {
       short = ltb-false 512 (length b) (three .0);
       letters = not-false (allLetters b) (four .0);
       follows-grammar = not-false (isPattern b) (five .0);
       in-order = six .0;
       none-empty = seven .0;
+      bounded = eleven .0;
       few = ltb-false 60 (positions (patternPart b)) (eight .0);
     }

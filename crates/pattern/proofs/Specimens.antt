@@ -68,6 +68,13 @@ starred =
     ∷ accepts "a=-5*" "" 1 0
     ∷ accepts "a=-5" "b" 0 0
     ∷ accepts "a=1-" "a-" 1 1
+    ∷ accepts "a{3}" "aaa" 1 0
+    ∷ accepts "a{0,3}" "aa" 1 0
+    ∷ accepts "(a|b){2}" "ab" 1 0
+    ∷ accepts "a{2,}" "aaaa" 1 0
+    ∷ accepts "(a*){2}" "aa" 3 0
+    ∷ accepts "(ab=1){2}" "abab" 1 2
+    ∷ accepts "a{60}" "a" 0 0
     ∷ accepts "[^ -~]" "é" 1 0
     ∷ accepts "[^ -~]" "a" 0 0
     ∷ accepts "é=1t(é|e=1)" "été" 1 1
@@ -93,6 +100,9 @@ starred =
     ∷ declines "a=+1" 5
     ∷ declines "(a)=-1" 5
     ∷ declines "a*=-1" 5
+    ∷ declines "a{1000}" 5
+    ∷ declines "a{2}*" 5
+    ∷ declines "a{2}{2}" 5
     ∷ declines "\u{1f}" 4
     ∷ declines "\u{7f}" 4
     ∷ declines "\u{9f}" 4
@@ -100,7 +110,13 @@ starred =
     ∷ declines "[z-\u{9f}]" 4
     ∷ declines "[z-a]" 6
     ∷ declines "[é-z]" 6
+    ∷ declines "[z-a]{0}" 6
     ∷ declines "[^ -ÿ]" 7
+    ∷ declines "a{0}" 11
+    ∷ declines "a{3,2}" 11
+    ∷ declines "a{256}" 11
+    ∷ declines "a{2,256}" 11
+    ∷ declines "a{61}" 8
     ∷ []
 
 -- and what pins each rule of the grammar down
@@ -182,13 +198,74 @@ grammar =
     ∷ accepts "ab?c?d" "ad" 1 0
     ∷ accepts "(a*b*)*" "ab" 2 0
     ∷ accepts "(a=1*)*" "aaa" 4 3
+    -- intervals: bounds of one to three digits
+    ∷ accepts "a{007}" "aaaaaaa" 1 0
+    ∷ accepts "a{007}" "aaaaaa" 0 0
+    ∷ accepts "a{1}" "a" 1 0
+    ∷ accepts "a{10}" "aaaaaaaaaa" 1 0
+    ∷ declines "a{}" 5
+    ∷ declines "a{,3}" 5
+    ∷ declines "a{ 1}" 5
+    ∷ declines "a{1;2}" 5
+    ∷ declines "a{-1}" 5
+    ∷ declines "a{1,2,3}" 5
+    ∷ declines "a{1" 5
+    ∷ declines "a{1," 5
+    ∷ declines "a{1,2" 5
+    ∷ declines "a{" 5
+    ∷ declines "a{0001}" 5
+    ∷ declines "a{1,1000}" 5
+    ∷ declines "a{:}" 5
+    ∷ declines "a{/}" 5
+    ∷ declines "{2}" 5
+    ∷ declines "(a|{2})" 5
+    ∷ declines "a}" 5
+    ∷ declines "a*{2}" 5
+    ∷ declines "a{2}+" 5
+    ∷ declines "a{2}?" 5
+    ∷ declines "a{2}=1" 5
+    -- at the least, at the most, and any number from there on
+    ∷ accepts "a{2,4}" "a" 0 0
+    ∷ accepts "a{2,4}" "aa" 1 0
+    ∷ accepts "a{2,4}" "aaaa" 1 0
+    ∷ accepts "a{2,4}" "aaaaa" 0 0
+    ∷ accepts "a{0,1}" "" 1 0
+    ∷ accepts "a{0,}" "" 1 0
+    ∷ accepts "a{0,}" "aa" 1 0
+    ∷ accepts "a{1,}" "" 0 0
+    ∷ accepts "a{1,}" "aa" 1 0
+    ∷ accepts "a{3,}" "aa" 0 0
+    ∷ accepts "a{3,}" "aaaaa" 1 0
+    -- each copy has links and credits of its own
+    ∷ accepts "(a{1,2}){2}" "aaa" 2 0
+    ∷ accepts "(a?){3}" "a" 3 0
+    ∷ accepts "(a?){0,3}" "a" 3 0
+    ∷ accepts "((a*)*){2}" "aa" 5 0
+    ∷ accepts "(a*){2,}" "aa" 4 0
+    ∷ accepts "(a+b=2){2}" "aabab" 1 4
+    ∷ accepts "a=3{2,5}" "aaaa" 1 12
+    ∷ loses "a=-1{3}" "aaa" 1 3
+    ∷ accepts "(a=1|b){0,3}" "aba" 1 2
+    -- 11 comes after 5, 6 and 7, wherever they are, and before 8
+    ∷ declines "a{0,0}" 11
+    ∷ declines "a{256,}" 11
+    ∷ declines "a{999,1}" 11
+    ∷ declines "(a{0}){2}" 11
+    ∷ declines "a{0}[^ -ÿ]" 7
+    ∷ declines "a{0}[z-a]" 6
+    ∷ declines "a{0}(" 5
+    ∷ declines "a{61}b{0}" 11
+    ∷ accepts "(a{20}){3}" "" 0 0
+    ∷ declines "(a{20}){3}b" 8
+    ∷ declines "a{255}" 8
+    ∷ declines "a{61,}" 8
+    ∷ declines "a{0,61}" 8
     -- no branch and no piece is missing, no bracket is open, and no other syntax is read
     ∷ declines "a|" 5
     ∷ declines "|a" 5
     ∷ declines "(a" 5
     ∷ declines "*a" 5
     ∷ declines "(a|)" 5
-    ∷ declines "a{2}" 5
     ∷ declines "^a" 5
     ∷ declines "a$" 5
     ∷ declines "]" 5

@@ -8,7 +8,7 @@ use lib.IntN.{ℤ, pos, negℤ}
 use lib.ListN.{length, getD, drop}
 use Rattle.basics.specs.Choice.{if_then_else_}
 use Rattle.basics.specs.Bytes.{codes, isIn}
-use Rattle.pattern.specs.Parts.{Item, item, Atom, atom, optional, star, plus, Part, letter, either, joined, again}
+use Rattle.pattern.specs.Parts.{Item, item, Atom, atom, optional, star, plus, Part, letter, either, joined, again, Bounds, between, atLeast, writtenOut}
 
 -- what reading a part gives: does the grammar hold, the part, the bytes after it
 pub record Read : Type 0 where
@@ -124,13 +124,62 @@ readLetter (b ∷ s) =
 
 -- ---- [Patterns, branches, pieces] three functions that call each other, since a piece may be a pattern in brackets
 
--- [Repeats] at most one of `?`, `*`, `+` after an atom
+-- [Intervals] a bound that is being read: its value so far, and the bytes after it
+pub record Bound : Type 0 where
+  pub value : ℕ
+  pub rest : List ℕ
+
+abbrev pub bound : ℕ → List ℕ → Bound
+bound v s = record { value = v; rest = s }
+
+abbrev pub isDigit : ℕ → Bool
+isDigit b = leb (code "0") b && leb b (code "9")
+
+-- [Intervals] one decimal digit more, where there is one
+abbrev pub digitMore : Bound → Bound
+digitMore b = if isDigit (peek (b .rest)) then bound (b .value * 10 + (peek (b .rest) - code "0")) (drop 1 (b .rest)) else b
+
+-- [Intervals] up to three of them
+abbrev pub readBound : List ℕ → Bound
+readBound s = digitMore (digitMore (digitMore (bound 0 s)))
+
+-- what reading an interval gives: does the grammar hold, its bounds, the bytes after it
+pub record Interval : Type 0 where
+  pub good : Bool
+  pub bounds : Bounds
+  pub rest : List ℕ
+
+abbrev pub interval : Bounds → List ℕ → Interval
+interval b s = record { good = true; bounds = b; rest = s }
+
+abbrev pub noInterval : Interval
+noInterval = record { good = false; bounds = between 0 0; rest = [] }
+
+-- [Intervals] after the `{`: a bound, and `}`, or `,` and `}`, or `,` and a bound and `}`
+abbrev pub readInterval : List ℕ → Interval
+readInterval s =
+    let m = readBound s in
+    let t = drop 1 (m .rest) in
+    let n = readBound t in
+    if not (isDigit (peek s)) then noInterval
+    else if eqb (peek (m .rest)) (code "}") then interval (between (m .value) (m .value)) t
+    else if not (eqb (peek (m .rest)) (code ",")) then noInterval
+    else if eqb (peek t) (code "}") then interval (atLeast (m .value)) (drop 1 t)
+    else if isDigit (peek t) && eqb (peek (n .rest)) (code "}") then interval (between (m .value) (n .value)) (drop 1 (n .rest))
+    else noInterval
+
+-- an atom and the interval that was read after it
+abbrev pub withInterval : Part → Interval → Read
+withInterval p i = if i .good then read (writtenOut (i .bounds) p) (i .rest) else broken
+
+-- [Repeats] at most one of `?`, `*`, `+` and an interval after an atom
 abbrev pub repeated : Read → Read
 repeated a =
     let b = peek (a .rest) in
     if a .good && eqb b (code "?") then read (again optional (a .part)) (drop 1 (a .rest))
     else if a .good && eqb b (code "*") then read (again star (a .part)) (drop 1 (a .rest))
     else if a .good && eqb b (code "+") then read (again plus (a .part)) (drop 1 (a .rest))
+    else if a .good && eqb b (code "{") then withInterval (a .part) (readInterval (drop 1 (a .rest)))
     else a
 
 -- does a branch go on after a piece

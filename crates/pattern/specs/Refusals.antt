@@ -7,7 +7,7 @@ use lib.ListN.{length}
 use Rattle.basics.specs.Choice.{if_then_else_}
 use Rattle.alphabet.specs.Alphabet.{allLetters, someLetter}
 use Rattle.graph.specs.Graph.{Graph, noGraph}
-use Rattle.pattern.specs.Parts.{Item, Atom, holds}
+use Rattle.pattern.specs.Parts.{Item, Atom, holds, isMisbounded, Part, letter, either, joined, again}
 use Rattle.pattern.specs.Grammar.{isPattern, patternPart}
 use Rattle.pattern.specs.Positions.{atoms, positions, patternGraph}
 
@@ -25,7 +25,14 @@ abbrev pub anyEmpty : List Atom → Bool
 anyEmpty [] = false
 anyEmpty (a ∷ al) = not (someLetter (holds a)) || anyEmpty al
 
--- [Refusals of a pattern] the first of 3 to 8 that applies; 0 where none does, and the pattern is accepted
+-- [Refusals of a pattern] 11: an interval whose bounds it names
+abbrev pub anyMisbounded : Part → Bool
+anyMisbounded (letter a) = false
+anyMisbounded (either p q) = anyMisbounded p || anyMisbounded q
+anyMisbounded (joined p q) = anyMisbounded p || anyMisbounded q
+anyMisbounded (again k p) = isMisbounded k || anyMisbounded p
+
+-- [Refusals of a pattern] the first of 3 to 7, 11 and 8 that applies; 0 where none does, and the pattern is accepted
 abbrev pub patternRefusal : List ℕ → ℕ
 patternRefusal s =
     if ltb 512 (length s) then 3
@@ -33,6 +40,7 @@ patternRefusal s =
     else if not (isPattern s) then 5
     else if anyReversed (atoms (patternPart s)) then 6
     else if anyEmpty (atoms (patternPart s)) then 7
+    else if anyMisbounded (patternPart s) then 11
     else if ltb 60 (positions (patternPart s)) then 8
     else 0
 

@@ -35,7 +35,7 @@ use Rattle.links.specs.Rows.{kept, entry, number, after, NoneCounted}
 use Rattle.links.proofs.Counting.{after-few}
 use Rattle.parsed.specs.Tables.{atomOf, Stored}
 use Rattle.parsed.specs.Parsed.{shapeOf}
-use Rattle.parts.specs.Parsing.{Whole}
+use Rattle.parts.specs.Parsing.{Kept}
 use Rattle.parts.specs.declared.ParsedRows.{ParsedRows}
 
 pub none-shown : (none : LetterSet) → ((c : ℕ) → hasLetter none c ≡ false) → (more : List ℕ)
@@ -73,7 +73,7 @@ module _ (p : ParsedRows) (sets credits : List ℕ) (held : List LetterSet) (las
   abbrev made : Built
   made = record { positions = p .part .n; follow = set (p .rows) 0 (p .part .firsts); doubled = p .part .doubled; lasts = lasts; letters = held; credits = credits }
 
-  module _ (x : Part) (more : List ℕ) (w : Whole (shapeOf x) (p .rows) more sets credits (p .part)) (few : positions x ≤ 60) (low : (u i : ℕ) → linksOf x u i ≤ 256) where
+  module _ (x : Part) (more : List ℕ) (w : Kept (shapeOf x) (p .rows) more sets credits (p .part)) (few : positions x ≤ 60) (low : (u i : ℕ) → linksOf x u i ≤ 256) where
     -- no link leads from 0, which is no position
     none-from-0 : (i : ℕ) → links 0 x 0 i ≡ 0
     none-from-0 i = by-test (some (links 0 x 0 i)) (λ e. let o = follow-own x 0 0 i e .0 in absurd (omega arith)) (none-of (links 0 x 0 i))

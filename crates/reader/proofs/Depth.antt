@@ -1,10 +1,12 @@
--- No two positions of an accepted pattern have more than 256 links. They have at most one more than repeats lie within each other, and
--- of those each takes three bytes, but for the innermost, which may take two; there are 512 bytes at most. Assumes nothing.
+-- No two positions of an accepted pattern have more than 256 links. They have at most one more than repeats that go round lie within each
+-- other, and of those each takes three bytes, but for the innermost, which may take two; there are 512 bytes at most. Copies of a part
+-- lie beside each other, so that an interval is one more of them at most, and it takes three bytes by itself. Assumes nothing.
 use mathlib.Core.Path.{_≡_, refl}
 use mathlib.Core.Bool.{Bool, true, false, _&&_, not, false≢true}
 use mathlib.Core.List.{List, [], _∷_, _++_}
 use Prim.Native.Nat.{ℕ, zero, suc, _+_, _-_, _*_, _≤_, _<_, max, zero-le}
 use Prim.Native.Char.{code}
+use native.Mathlib.Nat.{zero-add}
 use native.Mathlib.Omega.{arith}
 use lib.Dec.{eqb}
 use lib.IntN.{pos, negℤ}
@@ -14,19 +16,19 @@ use Rattle.basics.specs.Choice.{if_then_else_}
 use Rattle.basics.specs.Bytes.{isIn}
 use Rattle.basics.proofs.Tests.{and-parts, by-test, if-no, if-either}
 use Rattle.graph.proofs.Links.{if-low}
-use Rattle.pattern.specs.Parts.{Item, item, atom, Repeat, optional, star, plus, loops, Part, letter, either, joined, again}
-use Rattle.pattern.specs.Grammar.{Read, read, broken, peek, special, classLetter, classLetterLong, Items, itemsRead, itemsFrom, Credit, credit, noCredit, creditDigit, readCredit, withCredit, readClass, readLetter, repeated, goesOn, patternFrom, branchFrom, pieceFrom, readPattern, patternPart}
+use Rattle.pattern.specs.Parts.{Item, item, atom, Repeat, optional, star, plus, misbounded, loops, Part, letter, either, joined, again, Bounds, between, atLeast, outOfBounds, copies, nested, writtenOut}
+use Rattle.pattern.specs.Grammar.{Read, read, broken, peek, special, classLetter, classLetterLong, Items, itemsRead, itemsFrom, Credit, credit, noCredit, creditDigit, readCredit, withCredit, readClass, readLetter, Bound, bound, isDigit, digitMore, readBound, Interval, interval, noInterval, readInterval, withInterval, repeated, goesOn, patternFrom, branchFrom, pieceFrom, readPattern, patternPart}
 use Rattle.pattern.specs.Positions.{positions, isFirst, isLast, links, linksOf}
 use Rattle.pattern.specs.Refusals.{patternRefusal}
 use Rattle.pattern.proofs.Accepted.{refusal-none}
 use Rattle.pattern.proofs.Doubled.{not-both, over-alone}
 
--- how many repeats lie within each other
+-- how many repeats that go round lie within each other
 abbrev depth : Part → ℕ
 depth (letter a) = 0
 depth (either p q) = max (depth p) (depth q)
 depth (joined p q) = max (depth p) (depth q)
-depth (again k p) = suc (depth p)
+depth (again k p) = (if loops k then 1 else 0) + depth p
 
 -- ---- links by depth
 
@@ -35,6 +37,11 @@ one-of : (a b k : ℕ) → (1 ≤ a → 1 ≤ b → ⊥) → a ≤ k → b ≤ k
 one-of zero b k h l m = omega arith
 one-of (suc a) zero k h l m = omega arith
 one-of (suc a) (suc b) k h l m = absurd (h (omega arith) (omega arith))
+
+-- a turn is one link at most, and none where the repeat does not go round
+one-turn : (a b : Bool) → (if a && b then 1 else 0) ≤ (if a then 1 else 0)
+one-turn true b = if-low b
+one-turn false b = zero-le
 
 links-deep : (p : Part) (n x y : ℕ) → links n p x y ≤ suc (depth p)
 links-deep (letter a) n x y = zero-le
@@ -52,7 +59,31 @@ links-deep (joined p q) n x y =
     let c = if-no {A = ℕ} 1 0 over t in
     let m = one-of (links n p x y) (links (n + positions p) q x y) (suc (max (depth p) (depth q))) (not-both n p q x y) (omega arith) (omega arith) in
     omega arith)
-links-deep (again k p) n x y = let l = links-deep p n x y in let c = if-low (loops k && (isLast n p x && isFirst n p y)) in omega arith
+links-deep (again k p) n x y = let l = links-deep p n x y in let c = one-turn (loops k) (isLast n p x && isFirst n p y) in omega arith
+
+-- ---- copies of a part are no deeper than it is
+
+copies-deep : (m : ℕ) (p q : Part) → depth p ≤ depth q → depth (copies m p q) ≡ depth q
+copies-deep zero p q l = refl
+copies-deep (suc m) p q l = let h = copies-deep m p q l in omega arith
+
+nested-deep : (k : ℕ) (p : Part) → depth (nested k p) ≡ depth p
+nested-deep zero p = zero-add (depth p)
+nested-deep (suc k) p = let h = nested-deep k p in omega arith
+
+written-deep : (b : Bounds) (p : Part) → depth (writtenOut b p) ≤ suc (depth p)
+written-deep b p =
+    let P : Part → Type 0 = λ x. depth x ≤ suc (depth p) in
+    let more = copies (b .lower - 1) p (again plus p) in
+    let exact = copies (b .upper - 1) p p in
+    let less = copies (b .lower) p (nested (b .upper - suc (b .lower)) p) in
+    let endless = if eqb (b .lower) 0 then again star p else more in
+    let upper = if eqb (b .lower) (b .upper) then exact else less in
+    if-either P (again misbounded p) (if b .endless then endless else upper) (outOfBounds b) (λ e. omega arith)
+    (λ e. if-either P endless upper (b .endless)
+    (λ f. if-either P (again star p) more (eqb (b .lower) 0) (λ g. omega arith) (λ g. omega (arith, copies-deep (b .lower - 1) p (again plus p) (omega arith))))
+    (λ f. if-either P exact less (eqb (b .lower) (b .upper)) (λ g. omega (arith, copies-deep (b .upper - 1) p p (omega arith)))
+    (λ g. let n = nested-deep (b .upper - suc (b .lower)) p in omega (arith, copies-deep (b .lower) p (nested (b .upper - suc (b .lower)) p) (omega arith)))))
 
 -- ---- depth by bytes: what is read of a text
 
@@ -139,24 +170,72 @@ letter-atomic : (s : List ℕ) → Atomic s (readLetter s)
 letter-atomic [] g = absurd (false≢true g)
 letter-atomic (b ∷ s) g = let l = letter-left b s in let d = l .1 in omega arith
 
+low-turn : (k : Repeat) → (if loops k then 1 else 0) ≤ 1
+low-turn k = if-low (loops k)
+
 turned : (s : List ℕ) (a : Read) (k : Repeat) (c : ℕ) → 1 ≤ c → Atomic s a → (a .good && eqb (peek (a .rest)) c) ≡ true → Deep s (read (again k (a .part)) (drop 1 (a .rest)))
 turned s a k c l h e g =
     let w = and-parts (a .good) (eqb (peek (a .rest)) c) e in
     let m = h (w .0) in
     let n = peek-some (a .rest) c l (w .1) in
     let d = length-drop 1 (a .rest) in
+    let o = low-turn k in
     (omega arith, omega arith)
+
+-- a bound takes no byte back, and an interval takes one at least
+bound-left : (b : Bound) → length (digitMore b .rest) ≤ length (b .rest)
+bound-left b = if-either (λ (x : Bound). length (x .rest) ≤ length (b .rest)) (bound (b .value * 10 + (peek (b .rest) - code "0")) (drop 1 (b .rest))) b (isDigit (peek (b .rest))) (λ e. drop-low 1 (b .rest)) (λ e. omega arith)
+
+bounds-left : (s : List ℕ) → length (readBound s .rest) ≤ length s
+bounds-left s =
+    let one = digitMore (bound 0 s) in
+    let two = digitMore one in
+    let x = bound-left (bound 0 s) in
+    let y = bound-left one in
+    let z = bound-left two in
+    omega arith
+
+interval-left : (s : List ℕ) → length (readInterval s .rest) ≤ length s
+interval-left s =
+    let m = readBound s in
+    let t = drop 1 (m .rest) in
+    let n = readBound t in
+    let P : Interval → Type 0 = λ x. length (x .rest) ≤ length s in
+    let lm = bounds-left s in
+    let lt = drop-low 1 (m .rest) in
+    let ln = bounds-left t in
+    let fifth = if isDigit (peek t) && eqb (peek (n .rest)) (code "}") then interval (between (m .value) (n .value)) (drop 1 (n .rest)) else noInterval in
+    let fourth = if eqb (peek t) (code "}") then interval (atLeast (m .value)) (drop 1 t) else fifth in
+    let third = if not (eqb (peek (m .rest)) (code ",")) then noInterval else fourth in
+    let second = if eqb (peek (m .rest)) (code "}") then interval (between (m .value) (m .value)) t else third in
+    if-either P noInterval second (not (isDigit (peek s))) (λ e. zero-le)
+    (λ e. if-either P (interval (between (m .value) (m .value)) t) third (eqb (peek (m .rest)) (code "}")) (λ f. omega arith)
+    (λ f. if-either P noInterval fourth (not (eqb (peek (m .rest)) (code ","))) (λ g. zero-le)
+    (λ g. if-either P (interval (atLeast (m .value)) (drop 1 t)) fifth (eqb (peek t) (code "}")) (λ h. let l = drop-low 1 t in omega arith)
+    (λ h. if-either P (interval (between (m .value) (n .value)) (drop 1 (n .rest))) noInterval (isDigit (peek t) && eqb (peek (n .rest)) (code "}")) (λ k. let l = drop-low 1 (n .rest) in omega arith) (λ k. zero-le)))))
+
+times : (s : List ℕ) (a : Read) → Atomic s a → (a .good && eqb (peek (a .rest)) (code "{")) ≡ true → Deep s (withInterval (a .part) (readInterval (drop 1 (a .rest))))
+times s a h e =
+    let w = and-parts (a .good) (eqb (peek (a .rest)) (code "{")) e in
+    let m = h (w .0) in
+    let n = peek-some (a .rest) (code "{") (omega arith) (w .1) in
+    let d = length-drop 1 (a .rest) in
+    let i = readInterval (drop 1 (a .rest)) in
+    let l = interval-left (drop 1 (a .rest)) in
+    if-either (Deep s) (read (writtenOut (i .bounds) (a .part)) (i .rest)) broken (i .good) (λ f g. let o = written-deep (i .bounds) (a .part) in (omega arith, omega arith)) (λ f g. absurd (false≢true g))
 
 repeated-deep : (s : List ℕ) (a : Read) → Atomic s a → Deep s (repeated a)
 repeated-deep s a h =
     let b = peek (a .rest) in
     let r = drop 1 (a .rest) in
-    let third = if a .good && eqb b (code "+") then read (again plus (a .part)) r else a in
+    let fourth = if a .good && eqb b (code "{") then withInterval (a .part) (readInterval r) else a in
+    let third = if a .good && eqb b (code "+") then read (again plus (a .part)) r else fourth in
     let second = if a .good && eqb b (code "*") then read (again star (a .part)) r else third in
     if-either (Deep s) (read (again optional (a .part)) r) second (a .good && eqb b (code "?")) (turned s a optional (code "?") (omega arith) h)
     (λ d. if-either (Deep s) (read (again star (a .part)) r) third (a .good && eqb b (code "*")) (turned s a star (code "*") (omega arith) h)
-    (λ e. if-either (Deep s) (read (again plus (a .part)) r) a (a .good && eqb b (code "+")) (turned s a plus (code "+") (omega arith) h)
-    (λ f g. let m = h g in (omega arith, omega arith))))
+    (λ e. if-either (Deep s) (read (again plus (a .part)) r) fourth (a .good && eqb b (code "+")) (turned s a plus (code "+") (omega arith) h)
+    (λ f. if-either (Deep s) (withInterval (a .part) (readInterval r)) a (a .good && eqb b (code "{")) (times s a h)
+    (λ g k. let m = h k in (omega arith, omega arith)))))
 
 -- one part, and another after it, however they are put together
 after : (s t : List ℕ) (a b : Read) (part : Part) → Deep s a → a .good ≡ true → length t ≤ length (a .rest) → Deep t b → b .good ≡ true → depth part ≡ max (depth (a .part)) (depth (b .part))

@@ -2,8 +2,7 @@
 use mathlib.Core.Path.{_≡_, refl, sym, ap, _∙_, subst}
 use mathlib.Core.Bool.{Bool, true, false, not, _&&_, false≢true, true≢false}
 use mathlib.Core.List.{List, [], _∷_}
-use Prim.Native.Nat.{ℕ, zero, suc, _+_}
-use native.Mathlib.Nat.{add-zero}
+use Prim.Native.Nat.{ℕ, zero, suc, _<_}
 use native.Mathlib.Omega.{arith}
 use lib.Dec.{eqb, ltb}
 use lib.ListN.{length, getD, take, length-drop}
@@ -17,51 +16,54 @@ use Rattle.graph.specs.Built.{graphOfBuilt}
 use Rattle.graph.proofs.Bounds.{none-bounded}
 use Rattle.pattern.specs.Grammar.{readPattern, isPattern, patternPart}
 use Rattle.pattern.specs.Positions.{atoms, positions, patternGraph}
-use Rattle.pattern.specs.Refusals.{anyReversed, anyEmpty, patternRefusal, builtGraph}
+use Rattle.pattern.specs.Refusals.{anyReversed, anyEmpty, anyMisbounded, patternRefusal, builtGraph}
 use Rattle.parts.specs.Parsing.{ParsesAll}
 use Rattle.reader.specs.Read.{Reads, Refuses}
 use Rattle.parsed.specs.declared.Parsed.{Parsed}
 use Rattle.reader.specs.declared.ReadPattern.{ReadPattern}
 
--- the number of the first test that passes, from k on, or 0
-abbrev firstOf : ℕ → List Bool → ℕ
-firstOf k [] = 0
-firstOf k (t ∷ ts) = if t then k else firstOf (suc k) ts
+-- a test and the number that it stands for
+abbrev Test : Type 0
+Test = ℕ × Bool
 
-abbrev Fails : Bool → Type 0
-Fails t = t ≡ false
+-- the number of the first test that passes, or 0
+abbrev firstOf : List Test → ℕ
+firstOf [] = 0
+firstOf (t ∷ ts) = if t .1 then t .0 else firstOf ts
 
-first-is : (k : ℕ) (ts : List Bool) (n : ℕ) → Each Fails (take n ts) → getD ts n false ≡ true → firstOf k ts ≡ k + n
-first-is k [] n h e = absurd (false≢true e)
-first-is k (t ∷ ts) zero h e = if-yes k (firstOf (suc k) ts) t e ∙ sym (add-zero k)
-first-is k (t ∷ ts) (suc n) h e =
-    let z : suc k + n ≡ k + suc n = omega arith in
-    if-no k (firstOf (suc k) ts) t (h .0) ∙ first-is (suc k) ts n (h .1) e ∙ z
+abbrev Fails : Test → Type 0
+Fails t = t .1 ≡ false
+
+first-is : (ts : List Test) (n : ℕ) → Each Fails (take n ts) → getD ts n (0, false) .1 ≡ true → firstOf ts ≡ getD ts n (0, false) .0
+first-is [] n h e = absurd (false≢true e)
+first-is (t ∷ ts) zero h e = if-yes (t .0) (firstOf ts) (t .1) e
+first-is (t ∷ ts) (suc n) h e = if-no (t .0) (firstOf ts) (t .1) (h .0) ∙ first-is ts n (h .1) e
 
 -- and one test more
-pub fails-more : (ts : List Bool) (n : ℕ) → Each Fails (take n ts) → getD ts n true ≡ false → Each Fails (take (suc n) ts)
+pub fails-more : (ts : List Test) (n : ℕ) → Each Fails (take n ts) → getD ts n (0, true) .1 ≡ false → Each Fails (take (suc n) ts)
 fails-more [] n h e = absurd (true≢false e)
 fails-more (t ∷ ts) zero h e = (e, tt)
 fails-more (t ∷ ts) (suc n) h e = (h .0, fails-more ts n (h .1) e)
 
-first-none : (k : ℕ) (ts : List Bool) → Each Fails ts → firstOf k ts ≡ 0
-first-none k [] h = refl
-first-none k (t ∷ ts) h = if-no k (firstOf (suc k) ts) t (h .0) ∙ first-none (suc k) ts (h .1)
+first-none : (ts : List Test) → Each Fails ts → firstOf ts ≡ 0
+first-none [] h = refl
+first-none (t ∷ ts) h = if-no (t .0) (firstOf ts) (t .1) (h .0) ∙ first-none ts (h .1)
 
 module _ (s : List ℕ) where
-  abbrev pub tests : List Bool
+  -- in checking order
+  abbrev pub tests : List Test
   tests =
-      ltb 512 (length s) ∷ not (allLetters s) ∷ not (isPattern s) ∷ anyReversed (atoms (patternPart s)) ∷ anyEmpty (atoms (patternPart s))
-      ∷ ltb 60 (positions (patternPart s)) ∷ []
+      (3, ltb 512 (length s)) ∷ (4, not (allLetters s)) ∷ (5, not (isPattern s)) ∷ (6, anyReversed (atoms (patternPart s))) ∷ (7, anyEmpty (atoms (patternPart s)))
+      ∷ (11, anyMisbounded (patternPart s)) ∷ (8, ltb 60 (positions (patternPart s))) ∷ []
 
   -- the first n tests do not apply
   abbrev pub Passes : ℕ → Type 0
   Passes n = Each Fails (take n tests)
 
   -- the test number n applies and none before it
-  pub refuses : (n : ℕ) (more : List ℕ) (r : ReadPattern) → Passes n → getD tests n false ≡ true → Refuses (3 + n) r → Reads s more r
-  refuses n more r h e w =
-      let is : patternRefusal s ≡ 3 + n = first-is 3 tests n h e in
+  pub refuses : (n : ℕ) (more : List ℕ) (r : ReadPattern) → 0 < getD tests n (0, false) .0 → Passes n → getD tests n (0, false) .1 ≡ true → Refuses (getD tests n (0, false) .0) r → Reads s more r
+  refuses n more r some h e w =
+      let is : patternRefusal s ≡ getD tests n (0, false) .0 = first-is tests n h e in
       let none : builtGraph s ≡ noGraph = if-no (patternGraph s) noGraph (eqb (patternRefusal s) 0) (ne-eqb (patternRefusal s) 0 (λ z. omega arith)) in
       record {
         refusal = w .refusal ∙ sym is;
@@ -71,10 +73,10 @@ module _ (s : List ℕ) where
       }
 
   -- none applies
-  pub no-refusal : Passes 6 → patternRefusal s ≡ 0
-  no-refusal h = first-none 3 tests h
+  pub no-refusal : Passes 7 → patternRefusal s ≡ 0
+  no-refusal h = first-none tests h
 
-  pub accepts : (more : List ℕ) (r : ReadPattern) → Passes 6 → r .refusal ≡ 0 → graphOfBuilt (r .built) more ≡ patternGraph s → Bounded (patternGraph s)
+  pub accepts : (more : List ℕ) (r : ReadPattern) → Passes 7 → r .refusal ≡ 0 → graphOfBuilt (r .built) more ≡ patternGraph s → Bounded (patternGraph s)
       → (r .built .doubled ≡ false → SingleLinks (graphOfBuilt (r .built) more)) → Reads s more r
   accepts more r h z same bounds single =
       let is = no-refusal h in

@@ -10,7 +10,7 @@ use Rattle.pattern.specs.Parts.{Part}
 use Rattle.pattern.specs.Positions.{positions, linksOf, graphOf}
 use Rattle.pattern.specs.Refusals.{patternRefusal, builtGraph}
 use Rattle.parsed.specs.Parsed.{shapeOf}
-use Rattle.parts.specs.Parsing.{Whole}
+use Rattle.parts.specs.Parsing.{Kept}
 use Rattle.parts.specs.declared.ParsedRows.{ParsedRows}
 use Rattle.reader.specs.declared.ReadPattern.{ReadPattern}
 
@@ -27,5 +27,5 @@ pub record Refuses (k : ℕ) (r : ReadPattern) : Type 0 where
 
 -- of the rows and the tables of any part of up to 60 positions and up to 256 links from one state to another, its graph is built
 pub record Builds (p : ParsedRows) (sets credits : List ℕ) (r : Built) : Type 0 where
-  pub graph : (x : Part) (more : List ℕ) → Whole (shapeOf x) (p .rows) more sets credits (p .part) → positions x ≤ 60 → ((u i : ℕ) → linksOf x u i ≤ 256) → graphOfBuilt r more ≡ graphOf x
+  pub graph : (x : Part) (more : List ℕ) → Kept (shapeOf x) (p .rows) more sets credits (p .part) → positions x ≤ 60 → ((u i : ℕ) → linksOf x u i ≤ 256) → graphOfBuilt r more ≡ graphOf x
   pub doubled : r .doubled ≡ p .part .doubled

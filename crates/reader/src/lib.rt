@@ -8,7 +8,7 @@ ghost use Rattle.set_table.specs.Table.{tableSize};
 ghost use Rattle.links.specs.Rows.{NoneCounted, Room};
 ghost use Rattle.reader.specs.Read.{Reads, Refuses, Builds};
 
-// A pattern that was read: the number of the first refusal, from 3 to 8, that applies to it, and an empty built pattern; or 0,
+// A pattern that was read: the number of the first refusal, of 3 to 7, 11 and 8, that applies to it, and an empty built pattern; or 0,
 // and the built pattern.
 pub struct ReadPattern {
     pub refusal: u8,
@@ -40,6 +40,9 @@ pub fn read(s: &[u8], more: &mut [u8]) -> ReadPattern
     }
     if part.hollow {
         return refused(7);
+    }
+    if part.misbounded {
+        return refused(11);
     }
     if part.n > 60 {
         return refused(8);

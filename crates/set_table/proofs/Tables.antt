@@ -3,6 +3,7 @@ use mathlib.Core.Path.{_≡_, sym, ap, _∙_}
 use mathlib.Core.Bool.{Bool, false, _&&_}
 use mathlib.Core.List.{List}
 use Prim.Native.Nat.{ℕ, _+_, _*_, _<_, zero-le}
+use native.Mathlib.Nat.{add-zero}
 use native.Mathlib.Omega.{arith}
 use borrow.Author.Tests.{lt-ltb, le-ltb}
 use lib.Dec.{ltb}
@@ -12,7 +13,8 @@ use Rattle.basics.proofs.Tests.{by-equal, same-less}
 use Rattle.basics.proofs.Lists.{zeros}
 use Rattle.letters.specs.LetterSet.{hasLetter, setAt}
 use Rattle.letters.specs.declared.LetterSet.{LetterSet}
-use Rattle.set_table.specs.Table.{tableSize, setIn, Writes}
+use Rattle.copies.specs.Copies as Copies
+use Rattle.set_table.specs.Table.{tableSize, setIn, Writes, Repeats}
 use Rattle.letters.proofs.Sets.{zero-none, all-empty}
 
 -- a table of zeros has no letter
@@ -44,6 +46,26 @@ writes table i s h size =
         high = other (3 * j + 2) (λ e. omega arith) (λ e. omega arith) (λ e. d (omega arith)) k;
       };
     }
+
+-- words copied on are sets copied on
+pub repeats : (from to by : ℕ) (before after : List ℕ) → Copies.Repeats Copies.Same (3 * from) (3 * to) (3 * by) before after → Repeats from to by before after
+unfolding setIn
+repeats from to by before after w = record {
+  size = w .size;
+  copied = λ i a b k. record {
+    low = (ap (λ (j : ℕ). getD after j 0) (low-far i) ∙ w .copied (3 * i + 0) (omega arith) (omega arith) ∙ ap (λ (j : ℕ). getD after j 0) (add-zero (3 * i))) k;
+    middle = (ap (λ (j : ℕ). getD after j 0) (far i 1) ∙ w .copied (3 * i + 1) (omega arith) (omega arith)) k;
+    high = (ap (λ (j : ℕ). getD after j 0) (far i 2) ∙ w .copied (3 * i + 2) (omega arith) (omega arith)) k;
+  };
+  below = λ i a k. record { low = w .below (3 * i) (omega arith) k; middle = w .below (3 * i + 1) (omega arith) k; high = w .below (3 * i + 2) (omega arith) k };
+  above = λ i a k. record { low = w .above (3 * i) (omega arith) k; middle = w .above (3 * i + 1) (omega arith) k; high = w .above (3 * i + 2) (omega arith) k };
+}
+  where
+    low-far : (i : ℕ) → 3 * (i + by) ≡ (3 * i + 0) + 3 * by
+    low-far i = omega arith
+
+    far : (i j : ℕ) → 3 * (i + by) + j ≡ (3 * i + j) + 3 * by
+    far i j = omega arith
 
 -- ---- the array of the sets, of which those below n are copied and the others are empty
 

@@ -3,11 +3,11 @@
 use letters::LetterSet;
 ghost use mathlib.Core.Path.{_≡_};
 ghost use mathlib.Core.Bool.{false, _&&_};
-ghost use Prim.Native.Nat.{ℕ, _<_, _≤_};
+ghost use Prim.Native.Nat.{ℕ, _+_, _<_, _≤_};
 ghost use lib.Dec.{leb};
 ghost use lib.ListN.{length};
 ghost use Rattle.letters.specs.LetterSet.{hasLetter, setAt};
-ghost use Rattle.set_table.specs.Table.{tableSize, setIn, Writes};
+ghost use Rattle.set_table.specs.Table.{tableSize, setIn, Writes, Repeats};
 
 // The table of empty sets.
 pub fn empty() -> [u64; 183]
@@ -24,6 +24,14 @@ pub fn write(table: &mut [u64], i: usize, s: LetterSet)
     table[3 * i] = s.low;
     table[3 * i + 1] = s.middle;
     table[3 * i + 2] = s.high;
+}
+
+// Entry i + by becomes entry i, for each i from `from` on below `to`, in rising order.
+pub fn repeat(table: &mut [u64], from: usize, to: usize, by: usize)
+    requires { ⌜ (0 < by) × (from ≤ to) × (to + by ≤ 61) × (length (now table) ≡ tableSize) ⌝ }
+    ensures { λ _. ⌜ Repeats from to by (now (table .entry)) (now (table .exit)) ⌝ }
+{
+    copies::words(table, 3 * from, 3 * to, 3 * by);
 }
 
 // The sets of the entries 0 to n, and empty ones after them.

@@ -19,7 +19,7 @@ same-length c = search needs
 returns : tie.Need-returns
 returns c =
     let linked = c .before .before .before .before .before .link-again .ensures in
-    (λ s at n m sets credits R k e f g l w. again-stands s at n m _ _ sets credits R _ w k _ _ e f g l _ _ _ _ (c .before .before .before .before .before .before .before .before .union-if .ensures) linked, linked .rows-are)
+    (λ s at n m sets credits R k e f d g l w. again-stands s at n m _ _ sets credits R _ w k _ _ e f d g l _ _ _ _ (c .before .before .before .before .before .before .before .before .union-if .ensures) linked, linked .rows-are)
 
 pub again-spec : {M : Type 1} → statement M
 again-spec = tie.close (tie.spec union-if-requires link-again-requires add-out same-length returns)

@@ -11,7 +11,7 @@ byte-at-requires : tie.Need-byte-at-requires
 byte-at-requires c κs = search needs
 
 returns : tie.Need-returns
-returns c rows more at n m sets credits R w = close-not _ at n m rows more sets credits R _ w (c .before .byte-at .result) (c .before .byte-at .ensures) _ refl (c .if1 .taken)
+returns c n now at m R w = close-not _ at n m now R _ w (c .before .byte-at .result) (c .before .byte-at .ensures) _ refl (c .if1 .taken)
 
 add-out : tie.Need-add-out
 add-out c =
@@ -20,7 +20,7 @@ add-out c =
     omega arith
 
 returns-2 : tie.Need-returns-2
-returns-2 c rows more at n m sets credits R w = close-stands _ at n m rows more sets credits R _ w (c .before .byte-at .result) (c .before .byte-at .ensures) (c .if1 .left)
+returns-2 c n now at m R w = close-stands _ at n m now R _ w (c .before .byte-at .result) (c .before .byte-at .ensures) (c .if1 .left)
 
 pub closed-spec : {M : Type 1} → statement M
 closed-spec = tie.close (tie.spec byte-at-requires returns add-out returns-2)

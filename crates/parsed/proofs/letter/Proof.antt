@@ -1,7 +1,6 @@
--- The atom's contract, and the position's for its set. It takes a byte, so that the number of positions stays below the place.
--- Where the tables have an entry for it, both get it. Assumes nothing.
+-- The atom's contract, and the position's for its set. Where the tables have an entry for it, both get it. Assumes nothing.
 use mathlib.Core.Path.{refl, sym, ap, _∙_, subst}
-use mathlib.Core.Logic.{_⊎_, inl, inr, ⊎-elim}
+use mathlib.Core.Logic.{⊎-elim}
 use mathlib.Core.List.{List}
 use Prim.Native.Nat.{ℕ, _+_}
 use native.Mathlib.Omega.{arith}
@@ -42,19 +41,23 @@ position-requires : tie.Need-position-requires
 position-requires c κs = search needs
 
 same-length : tie.Need-same-length
-same-length c = ⊎-elim (λ w. ap length (w .5) ∙ w .2 .ensures .size) (λ w. ap length (w .1)) (c .before .if2 .came)
+same-length c = ⊎-elim (λ w. ap length (w .5) ∙ w .2 .ensures .size) (λ w. ap length (w .1)) (c .before .before .if2 .came)
 
 same-length-2 : tie.Need-same-length-2
-same-length-2 c = ⊎-elim (λ w. ap length (w .6) ∙ length-set (c .before .before .before .before .before .before .before .before .before .args .credits .now) _ _) (λ w. ap length (w .2)) (c .before .if2 .came)
+same-length-2 c = ⊎-elim (λ w. ap length (w .6) ∙ length-set (c .before .before .before .before .before .before .before .before .before .before .args .credits .now) _ _) (λ w. ap length (w .2)) (c .before .before .if2 .came)
+
+cut-requires : tie.Need-cut-requires
+cut-requires c κs = search needs
 
 returns-2 : tie.Need-returns-2
 returns-2 c =
-    let start = c .before .before .before .before .before .before .before .before .before in
-    let a = c .before .before .before .before .before .atom in
-    let good = not-false (a .result .good) (c .before .before .before .if1 .left) in
-    letter-stands _ _ _ _ _ _ _ _ _ (a .result) (a .ensures) good (start .pre .0) (c .position .ensures) (start .pre .1 .credits-are)
-    (⊎-elim (λ w. inl record { letters = subst (λ (l : List ℕ). Writes (start .args .n + 1) (a .result .set) (start .args .sets .now) l) (sym (w .5)) (w .2 .ensures); numbers = w .6; room = w .0 .taken })
-    (λ w. inr record { letters = w .1; numbers = w .2; full = w .0 .left }) (c .before .if2 .came))
+    let start = c .before .before .before .before .before .before .before .before .before .before in
+    let a = c .before .before .before .before .before .before .atom in
+    let good = not-false (a .result .good) (c .before .before .before .before .if1 .left) in
+    letter-stands _ _ _ _ _ _ _ _ _ _ (a .result) (a .ensures) good (c .cut .ensures) (c .before .position .ensures) (start .pre .1 .credits-are)
+    (λ h.
+    ⊎-elim (λ w. record { letters = subst (λ (l : List ℕ). Writes (start .args .n + 1) (a .result .set) (start .args .sets .now) l) (sym (w .5)) (w .2 .ensures); numbers = w .6 })
+    (λ w. absurd (omega (arith, h, w .0 .left))) (c .before .before .if2 .came))
 
 pub letter-spec : {M : Type 1} → statement M
 letter-spec =
@@ -67,6 +70,7 @@ letter-spec =
     write-requires
     slice-write-credits
     position-requires
+    cut-requires
     same-length
     same-length-2
     returns-2)

@@ -15,7 +15,7 @@ use Rattle.pattern.specs.Grammar.{pieceFrom}
 use Rattle.parsed.specs.Tables.{Sized}
 use Rattle.parsed.specs.Parsed.{Memory, memory}
 use Rattle.parts.specs.Parsing.{Parses}
-use Rattle.parts.proofs.Parsing.{parses-as, piece-letter, piece-open, bar-within}
+use Rattle.parts.proofs.Parsing.{parses-as, piece-letter, piece-open, closed-placed, bar-within}
 use Rattle.parts.proofs.Folding.{pieces, branches, Sofar, begins, ends, goes-on}
 use borrow.Fn.Kinds.{In}
 use borrow.Fn.PlainCycle.{Measures, is, falls, and}
@@ -34,9 +34,9 @@ use Rattle.parsed.proofs.either.Reads as either-reads
 use Rattle.parts.proofs.goes_on.Reads as goes-on-reads
 use Rattle.parts.proofs.is_bar.Reads as is-bar-reads
 use Rattle.parsed.proofs.join.Reads as join-reads
-use Rattle.parsed.proofs.lettered.Reads as lettered-reads
+use Rattle.repeats.proofs.lettered.Reads as lettered-reads
 use Rattle.parsed.proofs.nothing.Reads as nothing-reads
-use Rattle.parsed.proofs.repeat.Reads as repeat-reads
+use Rattle.repeats.proofs.repeat.Reads as repeat-reads
 use Rattle.parts.proofs.+branch+pattern+piece.{statement}
 use Rattle.parts.proofs.+branch+pattern+piece.Tie.{close}
 
@@ -243,7 +243,14 @@ piece-closed-requires : (t : ℕ) → piece-lts.Need-closed-requires (piece-env 
 piece-closed-requires t c κs = search needs
 
 piece-repeat-requires : (t : ℕ) → piece-lts.Need-repeat-requires (piece-env t) (piece-at t) piece.Post
-piece-repeat-requires t c κs = search needs
+piece-repeat-requires t c κs =
+    let start = c .before .before .before .before .before .before .before .before .before .before .before .before .before .before .before .before .before .before .before .before in
+    let p = c .before .before .before .before .before .before .before .before .before .before .before .before .pattern in (
+      closed-placed _ _ _ _ _ _ _ (p .ensures) (c .before .before .before .before .closed .ensures _ _) (start .pre .1 .0),
+      record { sets-are = p .kept .1 .1 .1 .1 .0 ∙ start .pre .1 .1 .sets-are; credits-are = p .kept .1 .1 .1 .1 .1 .0 ∙ start .pre .1 .1 .credits-are },
+      search needs,
+      p .kept .1 .1 .1 .1 .1 .1 .0 ∙ start .pre .1 .2,
+    )
 
 piece-same-length : (t : ℕ) → piece-lts.Need-same-length (piece-env t) (piece-at t) piece.Post
 piece-same-length t c = search needs
@@ -255,7 +262,7 @@ piece-same-length-3 : (t : ℕ) → piece-lts.Need-same-length-3 (piece-env t) (
 piece-same-length-3 t c = search needs
 
 piece-returns : (t : ℕ) → piece-lts.Need-returns (piece-env t) (piece-at t) piece.Post
-piece-returns t c = piece-open _ _ _ _ _ _ _ _ _ _ _ _ _ (c .before .before .before .before .before .before .before .before .before .before .before .before .before .before .before .before .before .before .before .before .before .pre .1 .3) (c .before .before .before .before .before .before .before .before .before .before .before .before .before .pattern .ensures) (c .before .before .before .before .before .closed .ensures _ _) (c .before .before .repeat .ensures .0)
+piece-returns t c = piece-open _ _ _ _ _ _ _ (c .before .before .before .before .before .before .before .before .before .before .before .before .before .before .before .before .before .before .before .pattern .ensures) (c .before .before .before .before .before .before .before .before .before .before .before .closed .ensures _ _) _ _ (c .before .before .before .before .before .before .before .before .before .before .before .before .before .before .before .before .before .before .before .before .before .before .before .before .before .before .before .pre .1 .3) (c .before .before .before .before .before .before .repeat .ensures .0)
 
 pub +branch+pattern+piece-spec : {M : Type 1} → statement M
 +branch+pattern+piece-spec = close μ-branch μ-pattern μ-piece (λ t. branch-lts.spec (branch-env t)

@@ -56,11 +56,14 @@ passes-4 c = fails-more (tests (text3 (c .before))) 3 (passes-3 (c .before)) (sy
 passes-5 : (c : tie.Else5) → Passes (text3 (c .before .before)) 5
 passes-5 c = fails-more (tests (text3 (c .before .before))) 4 (passes-4 (c .before)) (sym (parsed (c .before .before) .hollow) ∙ c .if5 .left)
 
-few : (c : tie.Else6) → positions (patternPart (text3 (c .before .before .before .before))) ≤ 60
-few c = let count = parsed (c .before .before .before .before) .count in omega (arith, c .if6 .left)
+passes-6 : (c : tie.Else6) → Passes (text3 (c .before .before .before)) 6
+passes-6 c = fails-more (tests (text3 (c .before .before .before))) 5 (passes-5 (c .before)) (sym (parsed (c .before .before .before) .misbounded) ∙ c .if6 .left)
 
-passes-6 : (c : tie.Else6) → Passes (text3 (c .before .before .before .before)) 6
-passes-6 c = let s = text3 (c .before .before .before .before) in fails-more (tests s) 5 (passes-5 (c .before .before)) (le-ltb 60 (positions (patternPart s)) (few c))
+few : (c : tie.Else7) → positions (patternPart (text3 (c .before .before .before .before .before))) ≤ 60
+few c = let count = parsed (c .before .before .before .before .before) .count in omega (arith, c .if7 .left)
+
+passes-7 : (c : tie.Else7) → Passes (text3 (c .before .before .before .before .before)) 7
+passes-7 c = let s = text3 (c .before .before .before .before .before) in fails-more (tests s) 6 (passes-6 (c .before .before)) (le-ltb 60 (positions (patternPart s)) (few c))
 
 -- ---- the returns
 
@@ -70,7 +73,7 @@ refused-requires c κs = search needs
 returns : tie.Need-returns
 returns c =
     let s = c .before .before .before .before .args .s .now in
-    refuses s 0 _ (c .refused .result) tt (lt-ltb 512 (length s) (c .before .if1 .taken)) (c .refused .ensures)
+    refuses s 0 _ (c .refused .result) (omega arith) tt (lt-ltb 512 (length s) (c .before .if1 .taken)) (c .refused .ensures)
 
 all-letters-requires : tie.Need-all-letters-requires
 all-letters-requires c κs = search needs
@@ -81,7 +84,7 @@ refused-requires-2 c κs = search needs
 returns-2 : tie.Need-returns-2
 returns-2 c =
     let short = c .before .before .before in
-    refuses (text1 short) 1 _ (c .refused2 .result) (passes-1 short) (ap not (sym (c .before .before .all-letters .ensures)) ∙ c .before .if2 .taken) (c .refused2 .ensures)
+    refuses (text1 short) 1 _ (c .refused2 .result) (omega arith) (passes-1 short) (ap not (sym (c .before .before .all-letters .ensures)) ∙ c .before .if2 .taken) (c .refused2 .ensures)
 
 empty-requires : tie.Need-empty-requires
 empty-requires c κs = search needs
@@ -108,7 +111,7 @@ returns-3 c =
     let letters = c .before .before .before .before .before .before .before .before .before .before .before .before .before .before in
     let s = text2 letters in
     let p = c .before .before .before .before .before .before .before .before .before .parse in
-    refuses s 2 _ (c .refused3 .result) (passes-2 letters) (ap not (sym (whole-pattern s _ _ _ _ (p .result .part) (p .ensures))) ∙ c .before .if3 .taken) (c .refused3 .ensures)
+    refuses s 2 _ (c .refused3 .result) (omega arith) (passes-2 letters) (ap not (sym (whole-pattern s _ _ _ _ (p .result .part) (p .ensures))) ∙ c .before .if3 .taken) (c .refused3 .ensures)
 
 refused-requires-4 : tie.Need-refused-requires-4
 refused-requires-4 c κs = search needs
@@ -119,7 +122,7 @@ same-length-2 c = search needs
 returns-4 : tie.Need-returns-4
 returns-4 c =
     let is = c .before .before in
-    refuses (text3 is) 3 _ (c .refused4 .result) (passes-3 is) (sym (parsed is .reversed) ∙ c .before .if4 .taken) (c .refused4 .ensures)
+    refuses (text3 is) 3 _ (c .refused4 .result) (omega arith) (passes-3 is) (sym (parsed is .reversed) ∙ c .before .if4 .taken) (c .refused4 .ensures)
 
 refused-requires-5 : tie.Need-refused-requires-5
 refused-requires-5 c κs = search needs
@@ -130,7 +133,7 @@ same-length-3 c = search needs
 returns-5 : tie.Need-returns-5
 returns-5 c =
     let is = c .before .before .before in
-    refuses (text3 is) 4 _ (c .refused5 .result) (passes-4 (c .before .before)) (sym (parsed is .hollow) ∙ c .before .if5 .taken) (c .refused5 .ensures)
+    refuses (text3 is) 4 _ (c .refused5 .result) (omega arith) (passes-4 (c .before .before)) (sym (parsed is .hollow) ∙ c .before .if5 .taken) (c .refused5 .ensures)
 
 refused-requires-6 : tie.Need-refused-requires-6
 refused-requires-6 c κs = search needs
@@ -140,16 +143,11 @@ same-length-4 c = search needs
 
 returns-6 : tie.Need-returns-6
 returns-6 c =
-    let is = c .before .before .before .before .before in
-    let s = text3 is in
-    let count = parsed is .count in
-    refuses s 5 _ (c .refused6 .result) (passes-5 (c .before .before .before)) (lt-ltb 60 (positions (patternPart s)) (omega (arith, c .before .if6 .taken))) (c .refused6 .ensures)
+    let is = c .before .before .before .before in
+    refuses (text3 is) 5 _ (c .refused6 .result) (omega arith) (passes-5 (c .before .before)) (sym (parsed is .misbounded) ∙ c .before .if6 .taken) (c .refused6 .ensures)
 
-slice-aggregate-accepted : tie.Need-slice-aggregate-accepted
-slice-aggregate-accepted c = search needs
-
-accepted-requires : tie.Need-accepted-requires
-accepted-requires c κs = search needs
+refused-requires-7 : tie.Need-refused-requires-7
+refused-requires-7 c κs = search needs
 
 same-length-5 : tie.Need-same-length-5
 same-length-5 c = search needs
@@ -158,9 +156,25 @@ returns-7 : tie.Need-returns-7
 returns-7 c =
     let is = c .before .before .before .before .before .before in
     let s = text3 is in
-    let w = parsed is in
+    let count = parsed is .count in
+    refuses s 6 _ (c .refused7 .result) (omega arith) (passes-6 (c .before .before .before)) (lt-ltb 60 (positions (patternPart s)) (omega (arith, c .before .if7 .taken))) (c .refused7 .ensures)
+
+slice-aggregate-accepted : tie.Need-slice-aggregate-accepted
+slice-aggregate-accepted c = search needs
+
+accepted-requires : tie.Need-accepted-requires
+accepted-requires c κs = search needs
+
+same-length-6 : tie.Need-same-length-6
+same-length-6 c = search needs
+
+returns-8 : tie.Need-returns-8
+returns-8 c =
+    let is = c .before .before .before .before .before .before .before in
+    let s = text3 is in
     let l = few (c .before .before) in
-    let passes = passes-6 (c .before .before) in
+    let w = parsed is .keeps l in
+    let passes = passes-7 (c .before .before) in
     let made = c .accepted .ensures .1 in
     accepts s _ _ passes (c .accepted .ensures .0) (made .graph (patternPart s) _ w l (links-few s (no-refusal s passes))) (stored-bounded (patternPart s) _ _ (w .stored) l)
     (λ d. single-shown (c .accepted .result .built) (is .before .before .before .before .before .before .before .before .parse .last .1 .1 .1 .0) (w .none (sym (made .doubled) ∙ d)))
@@ -190,7 +204,10 @@ read-spec =
     refused-requires-6
     same-length-4
     returns-6
+    refused-requires-7
+    same-length-5
+    returns-7
     slice-aggregate-accepted
     accepted-requires
-    same-length-5
-    returns-7)
+    same-length-6
+    returns-8)

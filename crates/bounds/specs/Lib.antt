@@ -1,0 +1,2 @@
+-- What reading an interval gives.
+pub mod Bounds

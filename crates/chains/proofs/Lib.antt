@@ -1,0 +1,4 @@
+pub mod Moved
+pub mod Chains
+pub mod Copying
+pub mod Growing

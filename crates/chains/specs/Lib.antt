@@ -1,0 +1,2 @@
+-- Copies of a part, one after the other.
+pub mod Chains

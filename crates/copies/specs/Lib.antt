@@ -1,0 +1,2 @@
+-- Stretches of tables that are copied on.
+pub mod Copies

@@ -1,0 +1,2 @@
+-- Atoms that are repeated.
+pub mod Repeats
