@@ -111,6 +111,7 @@ static const char *reason(enum marking_refusal refusal) {
     case MARKING_PATTERN_GRAMMAR: return "the pattern does not follow the grammar";
     case MARKING_RANGE_REVERSED: return "a range's first letter has a higher code than its last";
     case MARKING_CLASS_EMPTY: return "a class holds no letter";
+    case MARKING_INTERVAL_BOUNDS: return "an interval's upper bound is 0 or below the lower one, or a bound is above 255";
     case MARKING_TOO_MANY_POSITIONS: return "there are more than 60 positions";
     case MARKING_ANSWER_TOO_LONG: return "the answer has more than 4,096 bytes";
     case MARKING_ANSWER_NO_LETTER: return "a byte of the answer is no letter";

@@ -28,8 +28,8 @@ extern "C" {
 #define MARKING_VERSION_TEXT "1.0.0"
 
 /* The most that is taken. */
-#define MARKING_PATTERN_MAX 512  /* bytes of a pattern */
-#define MARKING_POSITIONS_MAX 60 /* positions of a pattern */
+#define MARKING_PATTERN_MAX 512  /* bytes of a pattern, before intervals are written out */
+#define MARKING_POSITIONS_MAX 60 /* positions of a pattern, in all copies that its intervals stand for */
 #define MARKING_ANSWER_MAX 4096  /* bytes of an answer */
 
 /* The least that is asked for. */
@@ -40,7 +40,10 @@ extern "C" {
 /* The count that means 'so many or more'. Every smaller one is exact. */
 #define MARKING_COUNT_MAX (UINT64_C(1) << 63)
 
-/* Why a call declined: the lowest that applies. A letter is a byte from 32 to 126 or from 160 to 255. */
+/*
+ * Why a call declined: the first that applies, in this order, in which 11 is between 7 and 8. A letter is a byte from 32 to 126 or from
+ * 160 to 255. An interval is {m}, {m,} or {m,n}; m is the upper bound of {m} too.
+ */
 enum marking_refusal {
     MARKING_ACCEPTED = 0,
     MARKING_EVIDENCE_TOO_SHORT = 1, /* vet: fewer than MARKING_EVIDENCE bytes */
@@ -50,6 +53,7 @@ enum marking_refusal {
     MARKING_PATTERN_GRAMMAR = 5,    /* the pattern does not follow the grammar */
     MARKING_RANGE_REVERSED = 6,     /* a range's first letter has a higher code than its last */
     MARKING_CLASS_EMPTY = 7,        /* a class holds no letter */
+    MARKING_INTERVAL_BOUNDS = 11,   /* an interval's upper bound is 0 or below the lower one, or a bound is above 255 */
     MARKING_TOO_MANY_POSITIONS = 8, /* more than MARKING_POSITIONS_MAX */
     MARKING_ANSWER_TOO_LONG = 9,    /* mark: more than MARKING_ANSWER_MAX bytes */
     MARKING_ANSWER_NO_LETTER = 10   /* mark: a byte of the answer is no letter */

@@ -180,6 +180,32 @@ fn patterns() -> Vec<(&'static str, Vec<Vec<u8>>)> {
     ]
 }
 
+/// Patterns with intervals: ordinary ones, sixty copies in several ways, and the one of 512 bytes that takes longest to read.
+fn with_intervals() -> Vec<(&'static str, Vec<Vec<u8>>)> {
+    let one = |s: &str| vec![s.as_bytes().to_vec()];
+    let longest = format!("{}(a?){{60}}{}", "(".repeat(168), ")*".repeat(168));
+    let class = format!("[{}]{{60}}", "a-cx".repeat(126));
+    vec![
+        ("[0-9]{2}/[0-9]{2}/[0-9]{4}", one("[0-9]{2}/[0-9]{2}/[0-9]{4}")),
+        ("a{60}", one("a{60}")),
+        ("a{0,60}", one("a{0,60}")),
+        ("(((a{2}){2}){3}){5}", one("(((a{2}){2}){3}){5}")),
+        ("((a|b)*c){10}", one("((a|b)*c){10}")),
+        ("((a+)+b){30}", one("((a+)+b){30}")),
+        ("(a?){60}", one("(a?){60}")),
+        ("sixty copies of a long class", vec![class.into_bytes()]),
+        ("101 intervals, one in another", vec![format!("{}a{}", "(".repeat(101), "){1}".repeat(101)).into_bytes()]),
+        ("(a?){60} in 168 repeats", vec![longest.into_bytes()]),
+        (
+            "ordinary patterns with intervals",
+            ["[0-9]{1,2}/[0-9]{1,2}/[0-9]{4}", "[A-Z]{2}[0-9]{6}", "(ha ?){2,5}!", "[a-z]{3,}( [a-z]{3,}){0,4}", "(very=1 ){0,3}good", "no{2,}"]
+                .iter()
+                .map(|s| s.as_bytes().to_vec())
+                .collect(),
+        ),
+    ]
+}
+
 /// Sixty different letters as a pattern writes them.
 fn different_letters() -> Vec<String> {
     let write = |b: u8| if b"|*+?()[]{}^$.\\=".contains(&b) { format!("\\{}", b as char) } else { (b as char).to_string() };
@@ -222,8 +248,23 @@ fn vetting() {
 /// Reading alone: a mark of the empty answer.
 fn reading() {
     println!("\nreading, by a mark of the empty answer         library     plain   ratio");
+    reading_of(patterns());
+    println!("\nreading with intervals                         library     plain   ratio");
+    let mut search = plain::Search::new();
+    for p in with_intervals().into_iter().flat_map(|(_, list)| list) {
+        let r = vet(&p, &mut [0; 4096]);
+        let verdict = plain::vet(&p, &mut search).map(|(v, positions, ..)| (v, positions));
+        assert_eq!(Ok(((r >> 8) as u8, (r >> 16) as u8 as usize)), verdict, "{}", String::from_utf8_lossy(&p));
+        for a in [&b""[..], b"a", b"aaa", b"very good", b"16/11/2026", b"abcaacbbc", &[b'a'; 60]] {
+            assert_eq!(mark(&p, a), plain::mark(&p, a), "{}", String::from_utf8_lossy(&p));
+        }
+    }
+    reading_of(with_intervals());
+}
+
+fn reading_of(rows: Vec<(&'static str, Vec<Vec<u8>>)>) {
     let mut ratios = Vec::new();
-    for (name, list) in patterns() {
+    for (name, list) in rows {
         let n = 200;
         let run = |f: fn(&[u8], &[u8]) -> Result<(u64, i32), u8>| {
             time(7, || {

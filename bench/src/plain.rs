@@ -66,6 +66,7 @@ struct Reader<'a> {
     built: &'a mut Built,
     reversed: bool,
     hollow: bool,
+    misbounded: bool,
     positions: usize,
 }
 
@@ -142,6 +143,7 @@ impl Reader<'_> {
     }
 
     fn piece(&mut self) -> Option<Part> {
+        let before = self.positions;
         let mut a = if self.peek() == b'(' {
             self.at += 1;
             let a = self.pattern()?;
@@ -163,9 +165,79 @@ impl Reader<'_> {
                 self.link(a.lasts, a.firsts);
                 a.empty |= k == b'*';
             }
+            b'{' => {
+                self.at += 1;
+                a = self.interval(before, a)?;
+            }
             _ => {}
         }
         Some(a)
+    }
+
+    /// A bound: up to three digits.
+    fn bound(&mut self) -> Option<usize> {
+        let from = self.at;
+        let mut value = 0;
+        while self.peek().is_ascii_digit() && self.at < from + 3 {
+            value = 10 * value + usize::from(self.peek() - b'0');
+            self.at += 1;
+        }
+        (self.at > from).then_some(value)
+    }
+
+    /// A part that has the positions past `before`, with its interval: copies of its rows, of the numbers of its links, of its letters and
+    /// its credits, each moved on, are joined one to another.
+    fn interval(&mut self, before: usize, part: Part) -> Option<Part> {
+        let lower = self.bound()?;
+        let mut upper = Some(lower);
+        if self.peek() == b',' {
+            self.at += 1;
+            upper = if self.peek() == b'}' { None } else { Some(self.bound()?) };
+        }
+        if self.peek() != b'}' {
+            return None;
+        }
+        self.at += 1;
+        if lower > 255 || upper.is_some_and(|n| n == 0 || n < lower || n > 255) {
+            self.misbounded = true;
+            return Some(part);
+        }
+        let copies = upper.unwrap_or(lower.max(1));
+        let w = self.positions - before;
+        let end = before + copies * w;
+        if end > 60 {
+            self.positions = end.min(1000);
+            return Some(part);
+        }
+        self.positions = end;
+        let b = &mut *self.built;
+        for i in before + 1..=end - w {
+            b.letters[i + w] = b.letters[i];
+            b.credits[i + w] = b.credits[i];
+            b.follow[i + w] = b.follow[i] << w;
+        }
+        if !b.more.is_empty() {
+            for i in before + 1..=end - w {
+                b.more[i + w] = b.more[i].map(|digit| digit << w);
+            }
+        }
+        let mut all = part;
+        let mut one = part;
+        let mut ends = part.lasts;
+        for k in 1..copies {
+            one = Part { empty: one.empty, firsts: one.firsts << w, lasts: one.lasts << w };
+            self.link(all.lasts, one.firsts);
+            all = Part {
+                empty: all.empty,
+                firsts: all.firsts | if all.empty { one.firsts } else { 0 },
+                lasts: one.lasts | if one.empty { all.lasts } else { 0 },
+            };
+            ends = all.lasts | if lower <= k { ends } else { 0 };
+        }
+        if upper.is_none() {
+            self.link(one.lasts, one.firsts);
+        }
+        Some(Part { empty: all.empty | (lower == 0), firsts: all.firsts, lasts: ends })
     }
 
     fn class_letter(&mut self) -> Option<u8> {
@@ -265,13 +337,16 @@ pub fn read(text: &[u8], built: &mut Built) -> Result<(), u8> {
     if text.iter().any(|b| !is_letter(*b)) {
         return Err(4);
     }
-    let mut r = Reader { text, at: 0, built, reversed: false, hollow: false, positions: 0 };
+    let mut r = Reader { text, at: 0, built, reversed: false, hollow: false, misbounded: false, positions: 0 };
     let Some(part) = r.pattern().filter(|_| r.at == text.len()) else { return Err(5) };
     if r.reversed {
         return Err(6);
     }
     if r.hollow {
         return Err(7);
+    }
+    if r.misbounded {
+        return Err(11);
     }
     if r.positions > 60 {
         return Err(8);

@@ -21,6 +21,17 @@ static void refusal_is(const char *name, const uint8_t *pattern, size_t len, enu
     }
 }
 
+/* A part in so many brackets, each with the same after it; the length. */
+static size_t nested(uint8_t *pattern, size_t times, const char *part, const char *after) {
+    size_t at = times;
+    memset(pattern, '(', times);
+    memcpy(pattern + at, part, strlen(part));
+    at += strlen(part);
+    for (size_t i = 0; i < times; i++, at += strlen(after))
+        memcpy(pattern + at, after, strlen(after));
+    return at;
+}
+
 int main(void) {
     uint8_t pattern[MARKING_PATTERN_MAX];
     struct rlimit limit;
@@ -46,5 +57,15 @@ int main(void) {
     for (size_t i = 0; i < 512; i++)
         pattern[i] = (uint8_t)"a("[i % 2];
     refusal_is("256 times a(", pattern, 512, MARKING_PATTERN_GRAMMAR);
+    refusal_is("101 nested intervals {1}", pattern, nested(pattern, 101, "a{1}", "){1}"), MARKING_ACCEPTED);
+    refusal_is("84 nested intervals {1,}", pattern, nested(pattern, 84, "a{1,}", "){1,}"), MARKING_ACCEPTED);
+    refusal_is("101 nested intervals {2}", pattern, nested(pattern, 101, "a{2}", "){2}"), MARKING_TOO_MANY_POSITIONS);
+    refusal_is("72 nested intervals {255}", pattern, nested(pattern, 72, "a{255}", "){255}"), MARKING_TOO_MANY_POSITIONS);
+    refusal_is("101 nested intervals {0}", pattern, nested(pattern, 101, "a{0}", "){0}"), MARKING_INTERVAL_BOUNDS);
+    refusal_is("253 nested around a{60}", pattern, nested(pattern, 253, "a{60}", ")"), MARKING_ACCEPTED);
+    pattern[0] = '(';
+    memcpy(pattern + 1 + nested(pattern + 1, 168, "a*", ")*"), "){60}", 5);
+    refusal_is("sixty copies of 168 nested repeats", pattern, 512, MARKING_ACCEPTED);
+    refusal_is("508 times ( and a{1}", pattern, nested(pattern, 508, "a{1}", ""), MARKING_PATTERN_GRAMMAR);
     return failed;
 }

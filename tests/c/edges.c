@@ -145,6 +145,16 @@ static void whole_slices(void) {
     pattern = at_the_end("((a*b?)*)*", 10);
     answer = at_the_end("aab", 3);
     check(marking_mark(pattern, 10, answer, 3, count) == 0 && *count == 9);
+    running = "vet, an interval at the end of memory";
+    pattern = at_the_end("(a{1,2}|b=1){15}", 16);
+    check(marking_vet_unpack(marking_vet(pattern, 16, evidence, MARKING_EVIDENCE)).positions == 45);
+    running = "mark, sixty copies, slices at the end of memory";
+    pattern = at_the_end("(a*){60}", 8);
+    answer = at_the_end("aaa", 3);
+    check(marking_mark(pattern, 8, answer, 3, count) == 0 && *count == 60 * 61 * 62 / 6);
+    running = "mark, copies with links, slices at the end of memory";
+    pattern = at_the_end("((a*)*){60}", 11);
+    check(marking_mark(pattern, 11, answer, 3, count) == 0 && *count == 60 * 4 + 60 * 59 * 2 + 60 * 59 * 58 / 6);
     running = "mark, one text as pattern and as answer";
     pattern = at_the_end("abc", 3);
     check(marking_mark(pattern, 3, pattern, 3, count) == 0 && *count == 1);
@@ -264,6 +274,18 @@ int main(void) {
         {"refusal 5, a pattern that ends with =-", at_the_end("a=-", 3), 3, a, 1, MARKING_PATTERN_GRAMMAR},
         {"refusal 5, a digit past the pattern", at_the_end("a=-1", 4), 3, a, 1, MARKING_PATTERN_GRAMMAR},
         {"refusal 5, =-0", at_the_end("a=-0", 4), 4, a, 1, MARKING_PATTERN_GRAMMAR},
+        {"refusal 5, a pattern that ends with {", at_the_end("a{", 2), 2, a, 1, MARKING_PATTERN_GRAMMAR},
+        {"refusal 5, a pattern that ends with a lower bound", at_the_end("a{255", 5), 5, a, 1, MARKING_PATTERN_GRAMMAR},
+        {"refusal 5, a pattern that ends with a comma", at_the_end("a{2,", 4), 4, a, 1, MARKING_PATTERN_GRAMMAR},
+        {"refusal 5, a pattern that ends with an upper bound", at_the_end("(a){2,3", 7), 7, a, 1, MARKING_PATTERN_GRAMMAR},
+        {"refusal 5, a brace past the pattern", at_the_end("a{2}", 4), 3, a, 1, MARKING_PATTERN_GRAMMAR},
+        {"refusal 8, by copies", at_the_end("a{61}", 5), 5, a, 1, MARKING_TOO_MANY_POSITIONS},
+        {"refusal 8, by copies of copies", at_the_end("((a{255}){255}){255}", 20), 20, a, 1, MARKING_TOO_MANY_POSITIONS},
+        {"refusal 11", at_the_end("a{0}", 4), 4, a, 1, MARKING_INTERVAL_BOUNDS},
+        {"refusal 11, reversed", at_the_end("(a|b){3,2}", 10), 10, a, 1, MARKING_INTERVAL_BOUNDS},
+        {"refusal 11, 256", at_the_end("a{256,}", 7), 7, NULL, 0, MARKING_INTERVAL_BOUNDS},
+        {"refusal 11, sixty copies before it", at_the_end("a{60}b{999,1}", 13), 13, a, 1, MARKING_INTERVAL_BOUNDS},
+        {"refusal 11 before 9", at_the_end("a{2,256}", 8), 8, many, MARKING_ANSWER_MAX + 1, MARKING_INTERVAL_BOUNDS},
         {"refusal 9, points off", at_the_end("a=-1*", 5), 5, many, MARKING_ANSWER_MAX + 1, MARKING_ANSWER_TOO_LONG},
         {"refusal 10, points off", at_the_end("a=-1*", 5), 5, at_the_end("a\t", 2), 2, MARKING_ANSWER_NO_LETTER},
         {"refusal 9", a, 1, many, MARKING_ANSWER_MAX + 1, MARKING_ANSWER_TOO_LONG},
@@ -279,8 +301,8 @@ int main(void) {
     edge_codes();
     signed_marks();
     unpacked_marks();
-    refused_vets(cases, 12); /* the last six are of answers */
-    refused_marks(cases, 18);
+    refused_vets(cases, 24); /* the last six are of answers */
+    refused_marks(cases, 30);
     printf("%d passed, %d failed\n", passed, failed);
     return failed != 0;
 }

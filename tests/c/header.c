@@ -71,6 +71,10 @@ static void limits(void) {
     refused("a byte more", class_of, MARKING_PATTERN_TOO_LONG);
     check("the most positions", vet(letters(MARKING_POSITIONS_MAX)).positions == MARKING_POSITIONS_MAX);
     refused("a position more", letters(MARKING_POSITIONS_MAX + 1), MARKING_TOO_MANY_POSITIONS);
+    check("the most copies", vet("a{60}").positions == MARKING_POSITIONS_MAX);
+    refused("a copy more", "a{61}", MARKING_TOO_MANY_POSITIONS);
+    refused("the greatest bound", "a{255}", MARKING_TOO_MANY_POSITIONS);
+    refused("a greater bound", "a{256}", MARKING_INTERVAL_BOUNDS);
     check("the longest answer", mark("a=9*", MARKING_ANSWER_MAX, &count).mark == 9 * MARKING_ANSWER_MAX && count == 1);
     check("the lowest mark", mark("a=-9*", MARKING_ANSWER_MAX, &count).mark == -9 * MARKING_ANSWER_MAX && count == 1);
     check("a letter more", mark("a*", MARKING_ANSWER_MAX + 1, &count).refusal == MARKING_ANSWER_TOO_LONG && count == 1);
@@ -89,6 +93,13 @@ static void refusals(void) {
     refused("a closing bracket", "a)", MARKING_PATTERN_GRAMMAR);
     refused("a credit of -0", "a=-0", MARKING_PATTERN_GRAMMAR);
     refused("a credit without a digit", "a=-", MARKING_PATTERN_GRAMMAR);
+    refused("an interval without bounds", "a{}", MARKING_PATTERN_GRAMMAR);
+    refused("a bound of four digits", "a{1000}", MARKING_PATTERN_GRAMMAR);
+    refused("an interval and a repeat", "a{2}*", MARKING_PATTERN_GRAMMAR);
+    refused("no copy", "a{0}", MARKING_INTERVAL_BOUNDS);
+    refused("bounds that are reversed", "a{3,2}", MARKING_INTERVAL_BOUNDS);
+    refused("bounds before positions", "a{61}b{0}", MARKING_INTERVAL_BOUNDS);
+    refused("a range before bounds", "[z-a]{0}", MARKING_RANGE_REVERSED);
     refused("[z-a]", "[z-a]", MARKING_RANGE_REVERSED);
     refused("a byte between the letters", "[z-\x9f]", MARKING_PATTERN_NO_LETTER);
     refused("a class of no letter", "[^ -\xff]", MARKING_CLASS_EMPTY);
@@ -117,6 +128,21 @@ static void points_off(void) {
     check("off and earned", mark("a=-3a=2", 2, &count).mark == -1 && count == 1);
     check("as much off as earned", mark("a=-1a=1", 2, &count).mark == 0 && count == 1);
     check("off, and no reading", mark("a=-5", 2, &count).mark == 0 && count == 0);
+}
+
+/* Intervals: each copy has a position, and a credit, of its own. */
+static void intervals(void) {
+    uint64_t count = 7;
+    struct marking_vetted v = vet("a{0,3}");
+    check("optional copies", v.refusal == MARKING_ACCEPTED && v.verdict == MARKING_SINGLE && v.positions == 3);
+    v = vet("(a{1,2}){2}");
+    check("copies of copies", v.refusal == MARKING_ACCEPTED && v.verdict == MARKING_STEADY && v.positions == 4 && v.text_len == 3);
+    v = vet("(a{1,2})*");
+    check("copies in a repeat", v.refusal == MARKING_ACCEPTED && v.verdict == MARKING_RUNAWAY && v.positions == 2);
+    check("three copies", mark("a=1{3}", 3, &count).mark == 3 && count == 1);
+    check("two of three copies", mark("a=1{3}", 2, &count).mark == 0 && count == 0);
+    check("two copies or more", mark("a=-1{2,}", 5, &count).mark == -5 && count == 1);
+    check("two copies of a repeat", mark("(a*){2}", 2, &count).mark == 0 && count == 3);
 }
 
 static void verdicts(void) {
@@ -169,6 +195,7 @@ int main(void) {
     refusals();
     accents();
     points_off();
+    intervals();
     verdicts();
     fields();
     version();

@@ -1,18 +1,19 @@
 -- Intervals by their shapes. The idea: copies joined one after the other have the same firsts and links whether or not the later ones are
 -- optional and nested; an interval is such a chain that may end with each copy from the lower bound on, and whose last copy may go
 -- round. Written out, an interval nests to the right, and one copy more before it is one copy more of the chain. Assumes nothing.
-use mathlib.Core.Path.{_≡_, refl, sym, ap, ap₂, _∙_, subst}
-use mathlib.Core.Bool.{Bool, true, false, _&&_, _||_, not, and-self, true≢false}
-use mathlib.Core.List.{List, _++_}
-use Prim.Native.Nat.{ℕ, zero, suc, _+_, _-_, _*_, _≤_, max}
+use mathlib.Core.Path.{_≡_, refl, sym, ap, ap₂, _∙_}
+use mathlib.Core.Bool.{Bool, true, false, _&&_, _||_, and-self, true≢false}
+use mathlib.Core.List.{_++_}
+use Prim.Native.Nat.{ℕ, zero, suc, _+_, _-_, _*_, max}
 use native.Mathlib.Nat.{zero-add, add-zero, suc-add, zero-mul, suc-mul}
 use native.Mathlib.Omega.{arith}
-use borrow.Author.Tests.{ltb-false, eqb-true, eqb-false, le-leb}
-use lib.Dec.{eqb, ltb, leb, eqb·suc-zero, leb·zero, leb·suc-suc, leb·suc-zero}
+use borrow.Author.Tests.{eqb-true, le-leb}
+use lib.Dec.{eqb, leb, eqb·suc-zero, leb·zero, leb·suc-suc, leb·suc-zero}
 use lib.ListN.{length, length-append}
 use Rattle.basics.specs.Choice.{if_then_else_}
-use Rattle.basics.proofs.Tests.{by-test, or-parts, if-yes, if-no}
-use Rattle.pattern.specs.Parts.{star, plus, misbounded, Part, again, Bounds, outOfBounds, copies, nested, writtenOut}
+use Rattle.basics.proofs.Tests.{if-yes, if-no}
+use Rattle.pattern.specs.Parts.{star, plus, Part, again, Bounds, outOfBounds, copies, nested, writtenOut}
+use Rattle.pattern.proofs.Written.{written-by}
 use Rattle.parsed.specs.Parsed.{Shape, shapeOf}
 use Rattle.parsed.proofs.Shapes.{joinedShape, joined-assoc, Owns, owns-part, owns-joined}
 use Rattle.chains.specs.Chains.{howMany}
@@ -202,43 +203,18 @@ module _ (q : Part) where
 
   pub written : (b : Bounds) (k : ℕ) → outOfBounds b ≡ false → howMany b ≡ suc k → shapeOf (writtenOut b q) ≡ interval (b .lower) k (b .endless)
   written b k e h =
-      ap shapeOf (if-no (again misbounded q) (if b .endless then endless else upper) (outOfBounds b) e)
-      ∙ by-test (b .endless)
-      (λ t.
-      let is : max (b .lower) 1 ≡ suc k = sym (if-yes (max (b .lower) 1) (b .upper) (b .endless) t) ∙ h in
-      ap shapeOf (if-yes endless upper (b .endless) t)
-      ∙ by-test (eqb (b .lower) 0)
-      (λ z. let l = eqb-true (b .lower) 0 z in ap shapeOf (if-yes (again star q) more (eqb (b .lower) 0) z) ∙ any ∙ same 0 0 true (omega arith) (omega arith) (sym t))
-      (λ z. let l = eqb-false (b .lower) 0 z in ap shapeOf (if-no (again star q) more (eqb (b .lower) 0) z) ∙ after (b .lower - 1) 1 0 true (again plus q) some ∙ same (b .lower - 1 + 1) (b .lower - 1 + 0) true (omega arith) (omega arith) (sym t)))
-      (λ t.
-      let is : b .upper ≡ suc k = sym (if-no (max (b .lower) 1) (b .upper) (b .endless) t) ∙ h in
-      let order = order-of t in
-      ap shapeOf (if-no endless upper (b .endless) t)
-      ∙ by-test (eqb (b .lower) (b .upper))
-      (λ z. let l = eqb-true (b .lower) (b .upper) z in ap shapeOf (if-yes exact less (eqb (b .lower) (b .upper)) z) ∙ after (b .upper - 1) 1 0 false q once ∙ same (b .upper - 1 + 1) (b .upper - 1 + 0) false (omega arith) (omega arith) (sym t))
-      (λ z. let l = eqb-false (b .lower) (b .upper) z in ap shapeOf (if-no exact less (eqb (b .lower) (b .upper)) z) ∙ after (b .lower) 0 (b .upper - suc (b .lower)) false (nested (b .upper - suc (b .lower)) q) (up-to (b .upper - suc (b .lower)))
-      ∙ same (b .lower + 0) (b .lower + (b .upper - suc (b .lower))) false (omega arith) (omega arith) (sym t)))
+      written-by (λ p. shapeOf p ≡ interval (b .lower) k (b .endless)) b q e
+      (λ o z. let is = endless o in any ∙ same 0 0 true (sym z) (omega arith) (sym o))
+      (λ o z. let is = endless o in after (b .lower - 1) 1 0 true (again plus q) some ∙ same (b .lower - 1 + 1) (b .lower - 1 + 0) true (omega arith) (omega arith) (sym o))
+      (λ o z. let is = upper o in after (b .upper - 1) 1 0 false q once ∙ same (b .upper - 1 + 1) (b .upper - 1 + 0) false (omega arith) (omega arith) (sym o))
+      (λ o z. let is = upper o in let j = b .upper - suc (b .lower) in after (b .lower) 0 j false (nested j q) (up-to j) ∙ same (b .lower + 0) (b .lower + j) false (omega arith) (omega arith) (sym o))
     where
-      more : Part
-      more = copies (b .lower - 1) q (again plus q)
-
-      exact : Part
-      exact = copies (b .upper - 1) q q
-
-      less : Part
-      less = copies (b .lower) q (nested (b .upper - suc (b .lower)) q)
-
-      endless : Part
-      endless = if eqb (b .lower) 0 then again star q else more
-
-      upper : Part
-      upper = if eqb (b .lower) (b .upper) then exact else less
-
       same : (m j : ℕ) (f : Bool) → m ≡ b .lower → j ≡ k → f ≡ b .endless → interval m j f ≡ interval (b .lower) k (b .endless)
       same m j f x y z t = interval (x t) (y t) (z t)
 
-      order-of : b .endless ≡ false → b .lower ≤ b .upper
-      order-of t =
-          let parts = or-parts (ltb 255 (b .lower)) (not (b .endless) && (eqb (b .upper) 0 || (ltb (b .upper) (b .lower) || ltb 255 (b .upper)))) e in
-          let rest = ap (λ (f : Bool). not f && (eqb (b .upper) 0 || (ltb (b .upper) (b .lower) || ltb 255 (b .upper)))) (sym t) ∙ parts .1 in
-          ltb-false (b .upper) (b .lower) (or-parts (ltb (b .upper) (b .lower)) (ltb 255 (b .upper)) (or-parts (eqb (b .upper) 0) (ltb (b .upper) (b .lower) || ltb 255 (b .upper)) rest .1) .0)
+      -- how many copies there are
+      endless : b .endless ≡ true → max (b .lower) 1 ≡ suc k
+      endless o = sym (if-yes (max (b .lower) 1) (b .upper) (b .endless) o) ∙ h
+
+      upper : b .endless ≡ false → b .upper ≡ suc k
+      upper o = sym (if-no (max (b .lower) 1) (b .upper) (b .endless) o) ∙ h

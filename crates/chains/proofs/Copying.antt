@@ -15,13 +15,13 @@ use Rattle.bits.specs.Bits.{hasBit}
 use Rattle.copies.specs.Copies.{Same, Moved, Repeats}
 use Rattle.pattern.specs.Parts.{Part}
 use Rattle.pattern.specs.Positions.{positions, canBeEmpty, isFirst, isLast, links}
+use Rattle.pattern.proofs.Moved.{first-moved, last-moved, links-moved}
 use Rattle.links.specs.Rows.{kept, Marks, entry, number, after, Clear}
 use Rattle.parsed.specs.declared.Parsed.{Parsed}
 use Rattle.parsed.specs.Parsed.{shapeOf, Memory, Keeps}
 use Rattle.parsed.proofs.Shapes.{owns-part}
 use Rattle.parsed.proofs.Joining.{none}
 use Rattle.chains.specs.Chains.{NextCopy}
-use Rattle.chains.proofs.Moved.{first-moved, last-moved, links-moved}
 
 -- p is the part q, with n positions to its left, and past these the rows have its links and no other
 pub record Fresh (n : ℕ) (rows more : List ℕ) (q : Part) (p : Parsed) : Type 0 where

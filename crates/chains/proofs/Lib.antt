@@ -1,4 +1,3 @@
-pub mod Moved
 pub mod Chains
 pub mod Copying
 pub mod Growing

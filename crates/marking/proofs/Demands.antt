@@ -4,7 +4,7 @@
 -- position and the link taken to it. Assumes nothing.
 use mathlib.Core.Path.{_≡_}
 use mathlib.Core.Logic.{_↔_}
-use mathlib.Core.Bool.{true}
+use mathlib.Core.Bool.{true, false}
 use mathlib.Core.List.{List, _++_}
 use Prim.Native.Nat.{ℕ, _+_, _*_, _^_, _≤_}
 use lib.IntN.{pos}
@@ -15,11 +15,13 @@ use Rattle.alphabet.specs.Alphabet.{allLetters}
 use Rattle.graph.specs.Readings.{Transition, isReading, readings, creditOf, mark}
 use Rattle.graph.proofs.Counting as Counting
 use Rattle.graph.proofs.Marks as Marks
+use Rattle.pattern.specs.Parts.{Part, Bounds, outOfBounds, writtenOut}
 use Rattle.pattern.specs.Grammar.{patternPart}
 use Rattle.pattern.specs.Refusals.{patternRefusal}
 use Rattle.pattern.specs.Positions.{positions, patternGraph}
-use Rattle.pattern.specs.Texts.{Text}
+use Rattle.pattern.specs.Texts.{Text, Counted}
 use Rattle.pattern.proofs.Texts as Texts
+use Rattle.pattern.proofs.Intervals as Intervals
 use Rattle.pattern.proofs.Doubled.{trim}
 use Rattle.verdict.specs.Verdict.{verdict}
 use Rattle.verdict.specs.Evidence.{times, ShowsSteady, ShowsRunaway}
@@ -30,6 +32,10 @@ use Rattle.verdict.proofs.Bounds as Bounds
 -- "An answer has a reading exactly when it belongs to the pattern's texts as POSIX defines alternation, joining and repetition."
 pub texts-are-readings : (b s : List ℕ) → patternRefusal b ≡ 0 → Text (patternPart b) s ↔ ((r : List Transition) × (isReading (patternGraph b) s r ≡ true))
 texts-are-readings b s a = Texts.texts-read (patternPart b) s
+
+-- Of an interval those are the texts of its atom, one after another, as many as its bounds allow.
+pub interval-texts : (b : Bounds) (p : Part) (s : List ℕ) → outOfBounds b ≡ false → Text (writtenOut b p) s ↔ Counted p b s
+interval-texts b p s e = Intervals.interval-texts b p s e
 
 -- "The count is the true one": some list has all readings, each of them once, and is as long as the count says.
 pub count-is-true : (b s : List ℕ) → patternRefusal b ≡ 0

@@ -1,13 +1,16 @@
--- Proofs about patterns: positions, links, runs, texts and readings; what acceptance says; the specimens.
-pub mod Follows
-pub mod Own
-pub mod Link
-pub mod Within
-pub mod Runs
-pub mod RunTexts
-pub mod Texts
+-- Proofs about patterns: positions, links, runs, texts and readings, intervals; what acceptance says; the specimens.
 pub mod Accepted
-pub mod Useful
-pub mod Doubled
 pub mod Bounds
+pub mod Doubled
+pub mod Follows
+pub mod Intervals
+pub mod Link
+pub mod Moved
+pub mod Own
+pub mod RunTexts
+pub mod Runs
 pub mod Specimens
+pub mod Texts
+pub mod Useful
+pub mod Within
+pub mod Written

@@ -16,6 +16,13 @@ use Rattle.pattern.proofs.Follows.{follows-either, follows-joined, foll
 abbrev pub Own : ℕ → Part → ℕ → Type 0
 Own n p x = (n < x) × (x ≤ n + positions p)
 
+-- every part has one
+pub some-position : (p : Part) → 0 < positions p
+some-position (letter a) = omega arith
+some-position (either p q) = omega (arith, some-position p, length-append (atoms p) (atoms q))
+some-position (joined p q) = omega (arith, some-position p, length-append (atoms p) (atoms q))
+some-position (again k p) = some-position p
+
 module _ (n : ℕ) (p q : Part) (x : ℕ) where
   -- those of two parts side by side, however they are put together
   own-left : Own n p x → Own n (joined p q) x

@@ -251,6 +251,8 @@ grammar =
     ∷ declines "a{256,}" 11
     ∷ declines "a{999,1}" 11
     ∷ declines "(a{0}){2}" 11
+    ∷ declines "(a{0}|b)*c" 11
+    ∷ declines "a(b|c{0})" 11
     ∷ declines "a{0}[^ -ÿ]" 7
     ∷ declines "a{0}[z-a]" 6
     ∷ declines "a{0}(" 5

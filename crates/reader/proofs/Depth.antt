@@ -1,7 +1,7 @@
 -- No two positions of an accepted pattern have more than 256 links. They have at most one more than repeats that go round lie within each
 -- other, and of those each takes three bytes, but for the innermost, which may take two; there are 512 bytes at most. Copies of a part
 -- lie beside each other, so that an interval is one more of them at most, and it takes three bytes by itself. Assumes nothing.
-use mathlib.Core.Path.{_≡_, refl}
+use mathlib.Core.Path.{_≡_, refl, sym, subst}
 use mathlib.Core.Bool.{Bool, true, false, _&&_, not, false≢true}
 use mathlib.Core.List.{List, [], _∷_, _++_}
 use Prim.Native.Nat.{ℕ, zero, suc, _+_, _-_, _*_, _≤_, _<_, max, zero-le}
@@ -16,11 +16,12 @@ use Rattle.basics.specs.Choice.{if_then_else_}
 use Rattle.basics.specs.Bytes.{isIn}
 use Rattle.basics.proofs.Tests.{and-parts, by-test, if-no, if-either}
 use Rattle.graph.proofs.Links.{if-low}
-use Rattle.pattern.specs.Parts.{Item, item, atom, Repeat, optional, star, plus, misbounded, loops, Part, letter, either, joined, again, Bounds, between, atLeast, outOfBounds, copies, nested, writtenOut}
+use Rattle.pattern.specs.Parts.{Item, item, atom, Repeat, optional, star, plus, loops, Part, letter, either, joined, again, Bounds, between, atLeast, outOfBounds, copies, nested, writtenOut}
 use Rattle.pattern.specs.Grammar.{Read, read, broken, peek, special, classLetter, classLetterLong, Items, itemsRead, itemsFrom, Credit, credit, noCredit, creditDigit, readCredit, withCredit, readClass, readLetter, Bound, bound, isDigit, digitMore, readBound, Interval, interval, noInterval, readInterval, withInterval, repeated, goesOn, patternFrom, branchFrom, pieceFrom, readPattern, patternPart}
 use Rattle.pattern.specs.Positions.{positions, isFirst, isLast, links, linksOf}
 use Rattle.pattern.specs.Refusals.{patternRefusal}
 use Rattle.pattern.proofs.Accepted.{refusal-none}
+use Rattle.pattern.proofs.Written.{written-refused, written-by}
 use Rattle.pattern.proofs.Doubled.{not-both, over-alone}
 
 -- how many repeats that go round lie within each other
@@ -73,17 +74,11 @@ nested-deep (suc k) p = let h = nested-deep k p in omega arith
 
 written-deep : (b : Bounds) (p : Part) → depth (writtenOut b p) ≤ suc (depth p)
 written-deep b p =
-    let P : Part → Type 0 = λ x. depth x ≤ suc (depth p) in
-    let more = copies (b .lower - 1) p (again plus p) in
-    let exact = copies (b .upper - 1) p p in
-    let less = copies (b .lower) p (nested (b .upper - suc (b .lower)) p) in
-    let endless = if eqb (b .lower) 0 then again star p else more in
-    let upper = if eqb (b .lower) (b .upper) then exact else less in
-    if-either P (again misbounded p) (if b .endless then endless else upper) (outOfBounds b) (λ e. omega arith)
-    (λ e. if-either P endless upper (b .endless)
-    (λ f. if-either P (again star p) more (eqb (b .lower) 0) (λ g. omega arith) (λ g. omega (arith, copies-deep (b .lower - 1) p (again plus p) (omega arith))))
-    (λ f. if-either P exact less (eqb (b .lower) (b .upper)) (λ g. omega (arith, copies-deep (b .upper - 1) p p (omega arith)))
-    (λ g. let n = nested-deep (b .upper - suc (b .lower)) p in omega (arith, copies-deep (b .lower) p (nested (b .upper - suc (b .lower)) p) (omega arith)))))
+    by-test (outOfBounds b) (λ e. subst (λ (x : Part). depth x ≤ suc (depth p)) (sym (written-refused b p e)) (omega arith))
+    (λ e.
+    written-by (λ x. depth x ≤ suc (depth p)) b p e (λ o z. omega arith) (λ o z. omega (arith, copies-deep (b .lower - 1) p (again plus p) (omega arith)))
+    (λ o z. omega (arith, copies-deep (b .upper - 1) p p (omega arith)))
+    (λ o z. let k = b .upper - suc (b .lower) in let n = nested-deep k p in omega (arith, copies-deep (b .lower) p (nested k p) (omega arith))))
 
 -- ---- depth by bytes: what is read of a text
 

@@ -1,21 +1,23 @@
 -- An interval that was read after an atom: written out, it has the atom's copies. Where there is no room for them nothing is kept but
 -- that; where refusal 11 names it, the atom stays as it is. Assumes nothing.
 use mathlib.Core.Path.{_≡_, refl, sym, ap, ap₂, _∙_, subst}
-use mathlib.Core.Bool.{Bool, true, false, _&&_, _||_, not, or-self, true≢false}
+use mathlib.Core.Bool.{Bool, true, false, _||_, not, or-self}
 use mathlib.Core.List.{List, [], _∷_, _++_, append-assoc}
 use mathlib.Core.Logic.{⊎-elim}
 use Prim.Native.Nat.{ℕ, zero, suc, _+_, _-_, _*_, _≤_, _<_, min, max}
 use native.Mathlib.Nat.{add-zero, suc-mul}
 use native.Mathlib.Omega.{arith}
-use borrow.Author.Tests.{ltb-true, ltb-false, eqb-false}
-use lib.Dec.{eqb, ltb}
-use lib.ListN.{length, drop, length-append}
+use borrow.Author.Tests.{ltb-true, ltb-false}
+use lib.Dec.{ltb}
+use lib.ListN.{length, drop}
 use Rattle.basics.specs.Choice.{if_then_else_}
 use Rattle.basics.proofs.Tests.{by-test, or-parts, or-cases, if-yes, if-no, le-or-lt}
 use Rattle.alphabet.specs.Alphabet.{someLetter}
 use Rattle.copies.specs.Copies as Copies
 use Rattle.set_table.specs.Table.{Repeats}
-use Rattle.pattern.specs.Parts.{Atom, holds, star, plus, misbounded, Part, letter, either, joined, again, Bounds, outOfBounds, copies, nested, writtenOut}
+use Rattle.pattern.specs.Parts.{Atom, holds, Part, Bounds, outOfBounds, writtenOut}
+use Rattle.pattern.proofs.Own.{some-position}
+use Rattle.pattern.proofs.Written.{in-bounds, written-refused}
 use Rattle.pattern.specs.Grammar.{Read, read, broken, Interval, withInterval}
 use Rattle.pattern.specs.Positions.{atoms, positions, links}
 use Rattle.pattern.specs.Refusals.{someReversed, anyReversed, anyEmpty}
@@ -35,28 +37,17 @@ use Rattle.repeats.proofs.Tables.{with, stored-copies}
 
 -- ---- parts and bounds
 
-some-position : (p : Part) → 0 < positions p
-some-position (letter a) = omega arith
-some-position (either p q) = let h = some-position p in let l = length-append (atoms p) (atoms q) in omega arith
-some-position (joined p q) = let h = some-position p in let l = length-append (atoms p) (atoms q) in omega arith
-some-position (again k p) = some-position p
-
 pub placed : (n : ℕ) (m m′ : Memory) (p : Part) (r : Parsed) → n ≤ 61 → Has n m m′ (shapeOf p) r → Placed n r
 placed n m m′ p r low h = let c = h .count in let s = some-position p in record { on = omega arith; cut = omega arith; some = λ l. omega arith }
 
 -- how many copies there are
 pub many : (b : Bounds) → outOfBounds b ≡ false → (0 < howMany b) × (howMany b ≤ 255)
 many b e =
-    let parts = or-parts (ltb 255 (b .lower)) (not (b .endless) && (eqb (b .upper) 0 || (ltb (b .upper) (b .lower) || ltb 255 (b .upper)))) e in
-    let low = ltb-false 255 (b .lower) (parts .0) in
+    let fine = in-bounds b e in
+    let low = fine .low in
     by-test (b .endless)
     (λ t. let is = if-yes (max (b .lower) 1) (b .upper) (b .endless) t in (omega arith, omega arith))
-    (λ t.
-    let is = if-no (max (b .lower) 1) (b .upper) (b .endless) t in
-    let rest = or-parts (eqb (b .upper) 0) (ltb (b .upper) (b .lower) || ltb 255 (b .upper)) (ap (λ (f : Bool). not f && (eqb (b .upper) 0 || (ltb (b .upper) (b .lower) || ltb 255 (b .upper)))) (sym t) ∙ parts .1) in
-    let some = eqb-false (b .upper) 0 (rest .0) in
-    let high = ltb-false 255 (b .upper) (or-parts (ltb (b .upper) (b .lower)) (ltb 255 (b .upper)) (rest .1) .1) in
-    (omega arith, omega arith))
+    (λ t. let is = if-no (max (b .lower) 1) (b .upper) (b .endless) t in let some = fine .some t in let high = fine .high t in (omega arith, omega arith))
 
 -- is there no room for the copies
 module _ (n : ℕ) (p : Parsed) (copies : ℕ) (at : Placed n p) (some : 0 < copies) where
@@ -112,7 +103,7 @@ changed p good at n named = record { good = good; at = at; n = n; empty = p .emp
 module _ (n : ℕ) (m now : Memory) (p : Parsed) (q : Part) (h : Has n m now (shapeOf q) p) (good : Bool) (at : ℕ) where
   -- an interval that refusal 11 names
   pub has-misbounded : (b : Bounds) → outOfBounds b ≡ true → Has n m now (shapeOf (writtenOut b q)) (changed p good at (p .n) true)
-  has-misbounded b e = subst (λ (x : Part). Has n m now (shapeOf x) (changed p good at (p .n) true)) (sym (if-yes (again misbounded q) (if b .endless then (if eqb (b .lower) 0 then again star q else copies (b .lower - 1) q (again plus q)) else if eqb (b .lower) (b .upper) then copies (b .upper - 1) q q else copies (b .lower) q (nested (b .upper - suc (b .lower)) q)) (outOfBounds b) e)) record {
+  has-misbounded b e = subst (λ (x : Part). Has n m now (shapeOf x) (changed p good at (p .n) true)) (sym (written-refused b q e)) record {
     count = h .count;
     reversed = h .reversed;
     hollow = h .hollow;

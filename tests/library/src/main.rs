@@ -1,7 +1,8 @@
 //! Tests of the library against the rules: specimens, every byte in patterns and in answers, French and Spanish texts, points taken
-//! off, every byte in a credit, edges of every refusal, the last positions and the first past them, links by the hundred and counts at
-//! 2^63 by links, answers short and long, calls one after another, lent scratch, threads, what the pages claim, and random patterns and
-//! answers against an independent model. The last line is 'N passed, M failed'. Arguments: how many random patterns, and a seed.
+//! off, every byte in a credit, intervals with every bound and every byte in them and beside the same patterns written out, edges of every
+//! refusal, the last positions and the first past them, links by the hundred and counts at 2^63 by links, answers short and long, calls
+//! one after another, lent scratch, threads, what the pages claim, and random patterns and answers against an independent model. The last
+//! line is 'N passed, M failed'. Arguments: how many random patterns, and a seed.
 
 mod library;
 mod model;
@@ -650,6 +651,530 @@ fn credits_apart(t: &mut Tally) {
     }
 }
 
+/// Refused by vet, by vet in lent scratch and by mark, and by the model; no memory is changed.
+fn refused_everywhere(t: &mut Tally, pattern: &[u8], refusal: u8) {
+    refused_as_in_model(t, pattern, refusal);
+    t.same(vet_in(pattern, EVIDENCE, 8192, 11), Ok(Vetted::Refused(refusal)), &format!("vet {} in lent scratch", show(pattern)));
+}
+
+/// Accepted, with so many positions, and what the model has.
+fn accepted(t: &mut Tally, pattern: &[u8], positions: usize) {
+    let got = vet(pattern, EVIDENCE, 11);
+    let found = matches!(&got, Ok(Vetted::Verdict { positions: n, .. }) if *n == positions);
+    t.check(found, || format!("vet {}: {got:?}, want {positions} positions", show(pattern)));
+    t.same(model::read(pattern).map(|p| p.positions.len()), Ok(positions), &format!("the model: {}", show(pattern)));
+}
+
+/// Refused or accepted as in the model, and marked so.
+fn read_as_in_model(t: &mut Tally, pattern: &[u8]) {
+    match model::read(pattern) {
+        Err(refusal) => refuses(t, pattern, refusal),
+        Ok(p) => {
+            accepted(t, pattern, p.positions.len());
+            for answer in [&b""[..], b"a", b"aa", b"aaa", b"b", b"ab", b"aab", b"aaaaaaaaaaaa"] {
+                as_in_model(t, pattern, &p, answer, None);
+            }
+        }
+    }
+}
+
+/// Intervals: verdicts, positions, counts and marks.
+fn intervals(t: &mut Tally) {
+    let verdicts: [(&[u8], u8, usize); 37] = [
+        (b"a{3}", 0, 3),
+        (b"a{0,3}", 0, 3),
+        (b"a{1,1}", 0, 1),
+        (b"a{0,1}", 0, 1),
+        (b"a{0,}", 0, 1),
+        (b"a{1,}", 0, 1),
+        (b"a{2,}", 0, 2),
+        (b"a{007}", 0, 7),
+        (b"a{001,002}", 0, 2),
+        (b"(a|b){2}", 0, 4),
+        (b"(a|a){2}", 1, 4),
+        (b"(a{1,2}){2}", 1, 4),
+        (b"(a{1,2})*", 2, 2),
+        (b"(a{2})*", 0, 2),
+        (b"(a{2,})*", 2, 2),
+        (b"(a{0,2})*", 2, 2),
+        (b"(a{1,2}b)*", 0, 3),
+        (b"(a*){2}", 1, 2),
+        (b"(a*){1}", 0, 1),
+        (b"(a*){1,2}", 1, 2),
+        (b"(a*){2,}", 2, 2),
+        (b"(a*){0,}", 2, 1),
+        (b"(a+){1,}", 2, 1),
+        (b"(a?){3}", 1, 3),
+        (b"(a?){0,3}", 1, 3),
+        (b"(a?){0,}", 0, 1),
+        (b"(a?){2,}", 1, 2),
+        (b"((a*)*){2}", 2, 2),
+        (b"a{2}a{2}", 0, 4),
+        (b"a{1,2}a{1,2}", 1, 4),
+        (b"a{1,}a{1,}", 1, 2),
+        (b"((a{2}){2}){2}", 0, 8),
+        (b"((a{0,2}){0,2}){0,2}", 1, 8),
+        (b"[0-9]{2}/[0-9]{2}/[0-9]{4}", 0, 10),
+        (b"[a-m]{0,3}[m-z]{0,3}", 1, 6),
+        (b"\xe9{2}[\xe0-\xff]{1,2}", 0, 4),
+        (b"(a=1|a=-1){3}", 1, 6),
+    ];
+    for (pattern, verdict, positions) in verdicts {
+        verdict_is(t, pattern, verdict);
+        accepted(t, pattern, positions);
+        t.same(vet_in(pattern, EVIDENCE, 8192, 3), vet(pattern, EVIDENCE, 3), &format!("vet {} in lent scratch", show(pattern)));
+    }
+    let counted: [(&[u8], &[u8], u64, i32); 44] = [
+        (b"a{3}", b"aaa", 1, 0),
+        (b"a{3}", b"aa", 0, 0),
+        (b"a{3}", b"aaaa", 0, 0),
+        (b"a{0,3}", b"", 1, 0),
+        (b"a{0,3}", b"aa", 1, 0),
+        (b"a{0,3}", b"aaa", 1, 0),
+        (b"a{0,3}", b"aaaa", 0, 0),
+        (b"a{1,3}", b"", 0, 0),
+        (b"a{2,}", b"a", 0, 0),
+        (b"a{2,}", b"aa", 1, 0),
+        (b"a{2,}", b"aaaa", 1, 0),
+        (b"a{0,}", b"", 1, 0),
+        (b"a{0,}", b"aaaa", 1, 0),
+        (b"a{1,}", b"", 0, 0),
+        (b"(a|b){2}", b"ab", 1, 0),
+        (b"(a|b){2}", b"bb", 1, 0),
+        (b"(a|b){2}", b"a", 0, 0),
+        (b"(a|b){2}", b"aba", 0, 0),
+        (b"(a|a){3}", b"aaa", 8, 0),
+        (b"(a*){2}", b"aa", 3, 0),
+        (b"(a*){2}", b"", 1, 0),
+        (b"(a*){3}", b"aa", 6, 0),
+        (b"(a*){0,2}", b"aa", 3, 0),
+        (b"(a?){3}", b"aa", 3, 0),
+        (b"(a?){0,3}", b"aa", 3, 0),
+        (b"(a?){0,3}", b"", 1, 0),
+        (b"(a*){0,}", b"aaa", 4, 0),
+        (b"(a*){2,}", b"aa", 4, 0),
+        (b"(a{1,2}){2}", b"aaa", 2, 0),
+        (b"(a{1,2})*", b"aaaa", 5, 0),
+        (b"((a*)*){2}", b"aa", 5, 0),
+        (b"a{2}b{2}", b"aabb", 1, 0),
+        (b"a{2}|b{3}", b"bbb", 1, 0),
+        (b"ba{2}", b"baa", 1, 0),
+        (b"(ab=1){2}", b"abab", 1, 2),
+        (b"a=1{3}", b"aaa", 1, 3),
+        (b"a=-2{3}", b"aaa", 1, -6),
+        (b"a=12{3}", b"a222", 1, 1),
+        (b"[a-c]=-3{0,2}", b"bc", 1, -6),
+        (b"(a=1|a=-1){3}", b"aaa", 8, 3),
+        (b"(a=1{2}|a=-1){1,2}", b"aa", 2, 2),
+        (b"a\\{2\\}", b"a{2}", 1, 0),
+        (b"[{2}]{3}", b"{2}", 1, 0),
+        (b"\\{{2}\\}=1{2}", b"{{}}", 1, 2),
+    ];
+    for (pattern, answer, count, best) in counted {
+        earns(t, pattern, answer, count, best);
+    }
+    // the last positions, by one interval, by several and by those in others
+    for (pattern, positions) in [
+        (&b"a{60}"[..], 60),
+        (b"a{0,60}", 60),
+        (b"a{59,60}", 60),
+        (b"a{60,}", 60),
+        (b"(ab){30}", 60),
+        (b"((a|b)c){20}", 60),
+        (b"((((a{2}){2}){3}){5})", 60),
+        (b"a{30}b{30}", 60),
+        (b"a{59}b", 60),
+        (b"ab{59}", 60),
+        (b"((a|b)*c){20}", 60),
+        (b"[a-z]=-9{60}", 60),
+        (b"(((((((a{1}){1}){1}){1}){1}){1}){1}){60}", 60),
+        (b"(a{20}|b{20}){1}c{20}", 60),
+    ] {
+        verdict_is(t, pattern, 0);
+        accepted(t, pattern, positions);
+        let p = model::read(pattern).expect("a good pattern");
+        for answer in [vec![b'a'; 59], vec![b'a'; 60], vec![b'a'; 61], b"ab".repeat(30), b"acbc".repeat(10), [b"ab", &[b'c'; 20][..]].concat()] {
+            as_in_model(t, pattern, &p, &answer, None);
+        }
+    }
+    for pattern in [
+        &b"a{61}"[..],
+        b"a{0,61}",
+        b"a{61,}",
+        b"a{255}",
+        b"a{255,}",
+        b"a{0,255}",
+        b"a{255,255}",
+        b"(ab){31}",
+        b"(ab){30}a",
+        b"a(ab){30}",
+        b"((a{2}){2}){16}",
+        b"a{30}b{31}",
+        b"a{60}b",
+        b"(a{60}){2}",
+        b"(a{31}){2}",
+        b"(a{255}){255}",
+        b"((((((((a{255}){255}){255}){255}){255}){255}){255}){255}){255}",
+        b"a{255}b{255}",
+        b"(a{61}|b){1}",
+        b"(a{61})*",
+    ] {
+        refused_everywhere(t, pattern, 8);
+    }
+    // sixty positions that are all ends
+    for n in 0..=61 {
+        let count = u64::from(n <= 60);
+        earns(t, b"a=1{0,60}", &vec![b'a'; n], count, (n * count as usize) as i32);
+        earns(t, b"a=-1{30,60}", &vec![b'a'; n], u64::from((30..=60).contains(&n)), if (30..=60).contains(&n) { -(n as i32) } else { 0 });
+        earns(t, b"a=2{60,}", &vec![b'a'; n + 59], u64::from(n > 0), if n > 0 { 2 * (n as i32 + 59) } else { 0 });
+    }
+}
+
+/// Intervals that the grammar does not have, and braces where none may stand.
+fn broken_intervals(t: &mut Tally) {
+    let after_an_atom = b"{} {,} {,3} {;} {1;2} {1.2} {-1} {+1} {1,-2} {1-2} {a} {1a} {a1} {1,a} {1,2,3} {1,2,} {1,,2} {,1,2} \
+        {1 {1, {1,2 { {{1}} {{1} {1}} {1}2} {0001} {0000} {1000} {9999} {0001,} {1000,} {1,0001} {1,1000} {0001,2} {1000,2000} \
+        {00000000000000000001} {18446744073709551617} {2}* {2}+ {2}? {2}{2} {2,}* {0,1}? {1,2}+ {2,}{2} {0,1}{0,1} *{2} +{2} ?{2} \
+        *{2,} ?{0,1} {2}** {2}*{2} {2}=1 {2}=-1 {=1} {1=1} {2}{ {2}} \\{2} {2\\} {\\2} {(1)} {[1]} {*} {?} {+} {|} {1|2} {1*} {.} \
+        {^} {$} [{2}]} {\xb2} {\xbc} {1,\xb9}";
+    let elsewhere = b"{ } {2} {2}a ({2}) ({2}a) a|{2} {2}|a (a|{2}) a} {} a{2}} (a}) [a]} ^{2} ${2} a\\{2} \\{2} ={2} (a){2}= \
+        a=1{2}=1 a={2} a=-{2} a=0{2} (a)=1{2} a{2}) ((a){2} (){2} |{2}";
+    let spaces = [&b"{ 1}"[..], b"{1 }", b"{ }", b"{1, 2}", b"{1 ,2}", b"{ 1,}", b"{1,2 }", b" {1 }"];
+    for interval in after_an_atom.split(|b| *b == b' ').filter(|i| !i.is_empty()).chain(spaces) {
+        for atom in [&b"a"[..], b"(a)", b"(a|b)", b"[a-c]", b".", b"\\{", b"a=1", b"b=-2", b"a{2}b", b"\xe9", b"aaa"] {
+            refused_everywhere(t, &[atom, interval].concat(), 5);
+        }
+        for (before, after) in [(&b"(a"[..], &b")"[..]), (b"b|a", b"|c"), (b"a{0}a", b""), (b"[z-a]a", b"[^ -\xff]"), (b"a{61}a", b"b{3,2}")] {
+            refused_everywhere(t, &[before, interval, after].concat(), 5);
+        }
+    }
+    for pattern in elsewhere.split(|b| *b == b' ') {
+        refused_everywhere(t, pattern, 5);
+        refused_everywhere(t, &[b"a|", pattern].concat(), 5);
+    }
+    // the pattern ends in the middle of it
+    for whole in [&b"a{1,2}"[..], b"(a){25,250}", b"[ab]{007,}", b"a=1{60}"] {
+        let open = whole.iter().position(|b| *b == b'{').unwrap();
+        for end in open + 1..whole.len() {
+            refused_everywhere(t, &whole[..end], 5);
+            refused_everywhere(t, &[b"(", &whole[..end], b")"].concat(), 5);
+        }
+    }
+    // at the last of 512 bytes
+    for (tail, refusal) in [(&b"{2}"[..], 8), (b"{2", 5), (b"{", 5), (b"{1,2}", 8), (b"{1,2", 5), (b"{1,", 5), (b"{0}", 11), (b"{999,}", 11)] {
+        refused_everywhere(t, &[&vec![b'a'; 512 - tail.len()], tail].concat(), refusal);
+        refused_everywhere(t, &[&vec![b'a'; 513 - tail.len()], tail].concat(), 3);
+        let class = [b"[", &vec![b'a'; 510 - tail.len()][..], b"]", tail].concat();
+        match tail {
+            b"{2}" | b"{1,2}" => accepted(t, &class, 2),
+            _ => refused_everywhere(t, &class, refusal),
+        }
+    }
+}
+
+/// Every byte inside an interval and after it.
+fn interval_bytes(t: &mut Tally) {
+    let frames: [(&[u8], &[u8]); 16] = [
+        (b"a{", b"}"),
+        (b"a{", b"1}"),
+        (b"a{1", b"}"),
+        (b"a{1", b"2}"),
+        (b"a{", b",2}"),
+        (b"a{1,", b"}"),
+        (b"a{1,", b"2}"),
+        (b"a{1,2", b"}"),
+        (b"a{1,2}", b""),
+        (b"a{1}", b"a"),
+        (b"a{1", b""),
+        (b"a{1,2", b""),
+        (b"(a", b"{2})"),
+        (b"(a)", b"{2}"),
+        (b"a", b"2}"),
+        (b"a{2", b"b"),
+    ];
+    for b in 0..=255u8 {
+        for (before, after) in frames {
+            read_as_in_model(t, &[before, &[b], after].concat());
+        }
+    }
+}
+
+/// Every bound of one, two and three digits, on both sides.
+fn interval_bounds(t: &mut Tally) {
+    for n in 0..=999 {
+        let is = |t: &mut Tally, pattern: String, lower: usize, upper: Option<usize>| {
+            let out = lower > 255 || upper.is_some_and(|u| u == 0 || u < lower || u > 255);
+            match upper.unwrap_or(lower.max(1)) {
+                _ if out => refused_everywhere(t, pattern.as_bytes(), 11),
+                copies if copies > 60 => refused_everywhere(t, pattern.as_bytes(), 8),
+                copies => accepted(t, pattern.as_bytes(), copies),
+            }
+        };
+        is(t, format!("a{{{n}}}"), n, Some(n));
+        is(t, format!("(a){{{n:03}}}"), n, Some(n));
+        is(t, format!("a=1{{{n},}}"), n, None);
+        is(t, format!("[ab]{{{n:02},{n}}}"), n, Some(n));
+        is(t, format!("a{{0,{n}}}"), 0, Some(n));
+        is(t, format!("(a){{59,{n:03}}}"), 59, Some(n));
+        is(t, format!("a{{{n},60}}"), n, Some(60));
+        is(t, format!("a{{{n},255}}"), n, Some(255));
+        is(t, format!("a{{{n},256}}"), n, Some(256));
+        is(t, format!("a{{256,{n}}}"), 256, Some(n));
+        is(t, format!("a{{{n},0}}"), n, Some(0));
+    }
+}
+
+/// Refusal 11 comes after 5, 6 and 7, wherever what they name stands, and before 8.
+fn interval_refusals(t: &mut Tally) {
+    let bad = "a{0} a{0,0} a{00,000} (a){0} a{3,2} a{256} a{256,} a{2,256} a{999,999} (a|b){1,0} [ab]=1{300} .{2,1}";
+    let first: [(&[u8], u8); 9] = [
+        (b"[z-a]", 6),
+        (b"[^ -\xff]", 7),
+        (b"[z-a]{0}", 6),
+        (b"[z-a]{61}", 6),
+        (b"[^ -\xff]{3,2}", 7),
+        (b"{", 5),
+        (b"a**", 5),
+        (b"a{1000}", 5),
+        (b"[z-a]{2}{2}", 5),
+    ];
+    for b in bad.split(' ') {
+        for pattern in [
+            b.to_string(),
+            format!("({b})*"),
+            format!("({b}){{2}}"),
+            format!("({b}){{61}}"),
+            format!("({b}){{0}}"),
+            format!("((({b})))"),
+            format!("a{{61}}{b}"),
+            format!("{b}a{{61}}"),
+            format!("{b}|a{{255}}"),
+            format!("(a{{60}}){{60}}|{b}"),
+            format!("{}{b}", "a".repeat(100)),
+            format!("{b}{}", "a".repeat(100)),
+            format!("b{{2}}{b}c{{2}}"),
+            format!("{b}{b}"),
+        ] {
+            refused_everywhere(t, pattern.as_bytes(), 11);
+            for (wrong, refusal) in first {
+                refused_everywhere(t, &[wrong, pattern.as_bytes()].concat(), refusal);
+                refused_everywhere(t, &[pattern.as_bytes(), wrong].concat(), refusal);
+            }
+            refused_everywhere(t, &[b"[^ -\xff]", pattern.as_bytes(), b"[z-a]"].concat(), 6);
+            refused_everywhere(t, &[pattern.as_bytes(), b"\t"].concat(), 4);
+            t.same(vet(pattern.as_bytes(), 4095, 1), Ok(Vetted::Refused(1)), "refusal 1 before 11");
+            t.same(vet_in(pattern.as_bytes(), EVIDENCE, 8191, 1), Ok(Vetted::Refused(2)), "refusal 2 before 11");
+            t.same(mark(pattern.as_bytes(), &[10; 4097]), Ok(Marked::Refused(11)), "refusal 11 before 9 and 10");
+        }
+    }
+    refused_everywhere(t, b"a{61}b{0}", 11);
+    refused_everywhere(t, b"[z-a]{0}", 6);
+    refused_everywhere(t, b"[^ -\xff]{0}", 7);
+    refused_everywhere(t, b"[^ -\xff]{2}", 7);
+    refused_everywhere(t, b"[^ -\xff]{61}", 7);
+    refused_everywhere(t, b"([z-a]|b){2}", 6);
+    // deep ones, all out of bounds, or all but one
+    for bad in ["{0}", "{256}", "{2,1}"] {
+        for times in [1, 2, 60, 73] {
+            refused_everywhere(t, format!("{}a{}", "(".repeat(times), format!("){bad}").repeat(times)).as_bytes(), 11);
+            refused_everywhere(t, format!("{}a{bad}{}", "(".repeat(times), "){9}".repeat(times - 1) + ")").as_bytes(), 11);
+            refused_everywhere(t, format!("{}a{}{bad}", "(".repeat(times), "){9}".repeat(times - 1) + ")").as_bytes(), 11);
+        }
+    }
+}
+
+/// Intervals in intervals, up to 512 bytes of them.
+fn deep_intervals(t: &mut Tally) {
+    let deep = |part: &str, times: usize, interval: &str| format!("{}{part}{}", "(".repeat(times), format!("){interval}").repeat(times)).into_bytes();
+    for times in [1, 2, 50, 72, 73, 85, 86, 102, 103] {
+        for (interval, verdict, links) in [("{1}", 0, 0), ("{1,1}", 0, 0), ("{0,1}", 0, 0), ("{1,}", 2, times as u64), ("{0,}", 2, times as u64)] {
+            let pattern = deep("a", times, interval);
+            if pattern.len() > 512 {
+                refused_everywhere(t, &pattern, 3);
+                continue;
+            }
+            verdict_is(t, &pattern, if verdict == 2 && times == 1 { 0 } else { verdict });
+            accepted(t, &pattern, 1);
+            earns(t, &pattern, b"a", 1, 0);
+            earns(t, &pattern, b"aa", links, 0);
+            earns(t, &pattern, b"aaa", links * links, 0);
+        }
+    }
+    for times in 1..=100 {
+        for bound in ["{2}", "{3}", "{1,2}", "{0,2}", "{60}", "{2,}", "{255}"] {
+            let pattern = deep("a", times, bound);
+            if pattern.len() <= 512 && times > 5 {
+                refused_everywhere(t, &pattern, 8);
+            } else if pattern.len() <= 512 {
+                read_as_in_model(t, &pattern);
+            }
+        }
+    }
+    // links by the hundred, in copies
+    for (times, copies) in [(1, 2), (2, 2), (50, 2), (126, 2), (126, 3), (126, 60), (168, 2), (168, 9), (167, 60)] {
+        let pattern = format!("({}){{{copies}}}", nest("a*", times, '*'));
+        accepted(t, pattern.as_bytes(), copies);
+        verdict_is(t, pattern.as_bytes(), 2);
+        let p = model::read(pattern.as_bytes()).expect("a good pattern");
+        for n in [0, 1, 2, 3, 5, 9, 30] {
+            as_in_model(t, pattern.as_bytes(), &p, &vec![b'a'; n], None);
+        }
+    }
+}
+
+/// A pattern and the text of it without intervals: the library takes both for one, and the model takes the second for what the library makes
+/// of the first, also where it is too long for the library. `vetted`: the verdict too.
+fn as_written_out(t: &mut Tally, text: &[u8], plain: &[u8], answers: &[Vec<u8>], vetted: bool) {
+    let name = format!("{}, as {} ({} bytes)", show(text), show(&plain[..plain.len().min(100)]), plain.len());
+    if plain.len() <= 512 {
+        t.same(vet(text, EVIDENCE, 2), vet(plain, EVIDENCE, 2), &format!("vet {name}"));
+        for answer in answers {
+            t.same(mark(text, answer), mark(plain, answer), &format!("mark {} by {name}", show(answer)));
+        }
+    }
+    match model::read_any_length(plain) {
+        Err(refusal) => refuses(t, text, refusal),
+        Ok(p) => {
+            for answer in answers {
+                as_in_model(t, text, &p, answer, None);
+            }
+            if vetted {
+                evidence(t, text, &p, p.verdict());
+            }
+            // and what the model itself makes of the first
+            let facts = |p: model::Pattern| {
+                let positions: Vec<_> = p.positions.into_iter().map(|i| (i.letters, i.credit)).collect();
+                (positions, p.empty, p.firsts, p.lasts, p.links)
+            };
+            t.check(model::read(text).map(facts) == Ok(facts(p)), || format!("the model: {name}"));
+        }
+    }
+}
+
+/// Copies, also of what can be empty, beside the platform's matcher: every text of a few letters.
+fn copies_by_regexec(t: &mut Tally) {
+    let mut answers: Vec<Vec<u8>> = vec![Vec::new()];
+    for k in 0..127 {
+        answers.extend(b"ab".map(|b| [&answers[k][..], &[b]].concat()));
+    }
+    answers.extend((8..=14).map(|n| vec![b'a'; n]));
+    for pattern in [
+        &b"a{3}"[..],
+        b"a{0,3}",
+        b"a{2,}",
+        b"(a|b){2}",
+        b"[ab]{2,5}",
+        b"(a|ab){2,4}",
+        b"(a|ab|b){0,3}",
+        b"(a*){3}",
+        b"(a*){0,2}",
+        b"(a*){2,}",
+        b"(a?){5}",
+        b"(a?){0,5}",
+        b"(a?b?){4}",
+        b"(a?b?){2,}",
+        b"(a+){2,}",
+        b"(ab?){3,}",
+        b"(a{1,2}){2}",
+        b"(a{1,2})*",
+        b"(a{2}){2,}",
+        b"(a{2,3}){2,3}",
+        b"(a{0,2}b){1,3}",
+        b"((a|b{2}){2}){1,2}",
+        b"((ab){1,2}|a){2}",
+        b"((a?){2}b){0,2}",
+        b"((a*b){2}){0,2}",
+        b"((a{1,2}){1,2}){1,2}",
+        b"a{0,3}b{2,}a{1}",
+        b"(a{0,}|b{2}){2}",
+    ] {
+        let p = model::read(pattern).expect("a good pattern");
+        let regex = posix::Regex::new(&p);
+        t.check(regex.is_some(), || format!("regcomp of {}", show(pattern)));
+        for answer in &answers {
+            as_in_model(t, pattern, &p, answer, regex.as_ref());
+        }
+    }
+}
+
+/// More bytes than the text of an accepted pattern without intervals has.
+const WRITTEN: usize = 1 << 16;
+
+/// Intervals beside what they stand for, written by hand.
+fn written_by_hand(t: &mut Tally) {
+    let short: [(&str, &str); 40] = [
+        ("a{1}", "a"),
+        ("a{3}", "aaa"),
+        ("a{2,4}", "aa(a(a)?)?"),
+        ("a{0,1}", "(a)?"),
+        ("a{0,3}", "(a(a(a)?)?)?"),
+        ("a{0,}", "a*"),
+        ("a{1,}", "a+"),
+        ("a{3,}", "aaa+"),
+        ("a{1,1}", "a"),
+        ("a{007}b", "aaaaaaab"),
+        ("(x){2,}", "(x)(x)+"),
+        ("(x){0,}", "(x)*"),
+        ("(a|b){2}", "(a|b)(a|b)"),
+        ("(a|b){1,2}", "(a|b)((a|b))?"),
+        ("(ab){2}c{2}", "(ab)(ab)cc"),
+        ("ab{2}", "abb"),
+        ("ab{2}|c{2}d", "abb|ccd"),
+        ("a=1{2}", "a=1a=1"),
+        ("a=-1{2,}", "a=-1a=-1+"),
+        ("(a=1b=-2){2}", "(a=1b=-2)(a=1b=-2)"),
+        ("[a-c]{2}", "[a-c][a-c]"),
+        ("[a\\]{2}]{2}", "[a\\]{2}][a\\]{2}]"),
+        ("[^a]=2{2}", "[^a]=2[^a]=2"),
+        (".{2}", ".."),
+        ("\\{{2}", "\\{\\{"),
+        ("\\\\{2}", "\\\\\\\\"),
+        ("(a*){2}", "(a*)(a*)"),
+        ("((a*)*){2}", "((a*)*)((a*)*)"),
+        ("(a{2}){2}", "(aa)(aa)"),
+        ("(a{1,2}){2}", "(a(a)?)(a(a)?)"),
+        ("(a{1,2})*", "(a(a)?)*"),
+        ("(a{2}b{0,1}){0,2}", "((aa(b)?)((aa(b)?))?)?"),
+        ("((a{2}){2}){2}", "((aa)(aa))((aa)(aa))"),
+        ("(a?){2,3}", "(a?)(a?)((a?))?"),
+        ("(a?){2,}", "(a?)(a?)+"),
+        ("(a|b*){3}", "(a|b*)(a|b*)(a|b*)"),
+        ("x(a|b){2}y", "x(a|b)(a|b)y"),
+        ("(a{2}|b){1,}", "(aa|b)+"),
+        ("((a|b){2}|c){2}", "((a|b)(a|b)|c)((a|b)(a|b)|c)"),
+        ("a{60}", "aaaaaaaaaaaaaaaaaaaaaaaaaaaaaaaaaaaaaaaaaaaaaaaaaaaaaaaaaaaa"),
+    ];
+    let answers = " a aa aaa aaaa aaaaa aaaaaa b ab abab aab aabaab bb bba x xx xxx xaby cc {{ \\\\ ccd aabb";
+    let answers: Vec<Vec<u8>> = answers.split(' ').map(|a| a.as_bytes().to_vec()).collect();
+    for (text, plain) in short {
+        t.same(model::written_out(text.as_bytes(), WRITTEN).map(|w| show(&w)), Some(plain.to_string()), &format!("{text} written out"));
+        as_written_out(t, text.as_bytes(), plain.as_bytes(), &answers, true);
+    }
+    // longer than 512 bytes
+    let all = "[abcdefghijklmnopqrstuvwxyz0123456789]";
+    let nested = |n: usize, part: &str| format!("{}{}", format!("({part}").repeat(n), ")?".repeat(n));
+    for (text, plain, answer) in [
+        (format!("{all}{{20}}"), all.repeat(20), "abcdefghij0123456789".to_string()),
+        (format!("{all}{{60}}"), all.repeat(60), "a1".repeat(30)),
+        (format!("{all}=2{{14,}}"), format!("{all}=2").repeat(13) + all + "=2+", "z9".repeat(20)),
+        (format!("{all}{{3,40}}"), all.repeat(3) + &nested(37, all), "abc".repeat(10)),
+        (format!("({all}=1|a){{30}}"), format!("({all}=1|a)").repeat(30), "a".repeat(30)),
+        (format!("({all}{{2}}-){{15}}"), format!("({all}{all}-)").repeat(15), "ab-".repeat(15)),
+        (format!("({all}{{1,2}}){{0,20}}"), nested(20, &format!("({all}({all})?)")), "q".repeat(25)),
+        (format!("({}){{60}}", nest("a", 20, '?')), format!("({})", nest("a", 20, '?')).repeat(60), "a".repeat(60)),
+        (format!("({}){{60}}", nest("a*", 20, '*')), format!("({})", nest("a*", 20, '*')).repeat(60), "aa".to_string()),
+        (format!("({}){{30,}}", nest("a|b", 20, '+')), format!("({})", nest("a|b", 20, '+')).repeat(30) + "+", "ab".repeat(17)),
+    ] {
+        t.check(plain.len() > 512, || format!("{text} is short"));
+        refuses(t, plain.as_bytes(), 3);
+        let written = model::written_out(text.as_bytes(), WRITTEN).map(|w| show(&w));
+        t.check(written.as_ref() == Some(&plain), || format!("{text} written out: {written:?}"));
+        let mut answers = vec![answer.clone().into_bytes(), [answer.as_bytes(), b"a"].concat(), answer.as_bytes()[1..].to_vec(), Vec::new()];
+        answers.push(answer.replace('a', "-").into_bytes());
+        as_written_out(t, text.as_bytes(), plain.as_bytes(), &answers, plain.len() < 3000);
+    }
+}
+
 /// Both sides of each refusal's edge, and the order in which they are checked.
 fn edges(t: &mut Tally) {
     let long = |n: usize, tail: &[u8]| [&vec![b'a'; n][..], tail].concat();
@@ -832,20 +1357,45 @@ fn random_cases(t: &mut Tally, patterns: usize, seed: u64) {
     for k in 0..patterns {
         let wild = k % 3 == 0;
         let text = random::pattern(&mut r, wild);
-        match model::read(&text) {
-            Err(refusal) => refuses(t, &text, refusal),
-            Ok(p) => {
-                if p.positions.len() <= 12 || k % 50 == 0 {
-                    evidence(t, &text, &p, p.verdict());
-                }
-                let regex = second_opinion(t, &text, &p);
-                let answers: Vec<Vec<u8>> = (0..3).map(|_| random::answer(&mut r, &p)).collect();
-                for answer in &answers {
-                    as_in_model(t, &text, &p, answer, regex.as_ref());
-                }
-                without_credits(t, &text, &p.without_credits(&text), &answers);
+        one_random_case(t, &mut r, &text, k % 50 == 0);
+    }
+}
+
+/// A random pattern, with some answers, against the model; `vetted`: the verdict too, though there are many positions.
+fn one_random_case(t: &mut Tally, r: &mut Random, text: &[u8], vetted: bool) {
+    match model::read(text) {
+        Err(refusal) => {
+            refuses(t, text, refusal);
+            let plain = if refusal == 8 { model::written_out(text, 512) } else { None };
+            if let Some(plain) = plain {
+                refuses(t, &plain, 8);
             }
         }
+        Ok(p) => {
+            let vetted = vetted || p.positions.len() <= 12;
+            if vetted {
+                evidence(t, text, &p, p.verdict());
+            }
+            let regex = second_opinion(t, text, &p);
+            let answers: Vec<Vec<u8>> = (0..3).map(|_| random::answer(r, &p)).collect();
+            for answer in &answers {
+                as_in_model(t, text, &p, answer, regex.as_ref());
+            }
+            without_credits(t, text, &p.without_credits(text), &answers);
+            let plain = model::written_out(text, WRITTEN).expect("not so long");
+            if plain != text {
+                as_written_out(t, text, &plain, &answers, vetted);
+            }
+        }
+    }
+}
+
+/// Intervals that fill the positions up to the last, or pass it.
+fn random_copies(t: &mut Tally, patterns: usize, seed: u64) {
+    let mut r = Random::new(seed ^ 0xc0b1e5);
+    for k in 0..patterns {
+        let text = random::copies(&mut r);
+        one_random_case(t, &mut r, &text, k % 50 == 0);
     }
 }
 
@@ -885,7 +1435,7 @@ fn as_in_model(t: &mut Tally, text: &[u8], p: &model::Pattern, answer: &[u8], re
         let want = p.best(&lists).map(|best| (lists.len() as u128, best));
         t.check(has(want), || format!("{}; want {want:?}", name()));
     }
-    if answer.len() <= 10 {
+    if answer.len() <= 24 {
         let ways = p.ways(answer, u128::from(MOST));
         t.check(u128::from(count) == ways, || format!("{}; {ways} ways through the tree", name()));
     }
@@ -919,6 +1469,14 @@ fn main() {
     points_off(&mut t);
     credit_bytes(&mut t);
     credits_apart(&mut t);
+    intervals(&mut t);
+    broken_intervals(&mut t);
+    interval_bytes(&mut t);
+    interval_bounds(&mut t);
+    interval_refusals(&mut t);
+    deep_intervals(&mut t);
+    written_by_hand(&mut t);
+    copies_by_regexec(&mut t);
     many_links(&mut t);
     counts_by_links(&mut t);
     edges(&mut t);
@@ -930,6 +1488,7 @@ fn main() {
     pages::run(&mut t);
     random_cases(&mut t, patterns, seed);
     random_rounds(&mut t, patterns / 10, seed);
+    random_copies(&mut t, patterns / 10, seed);
     println!("{} passed, {} failed", t.passed, t.failed);
     std::process::exit(i32::from(t.failed > 0));
 }

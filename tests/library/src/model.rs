@@ -1,7 +1,8 @@
-//! The rules once more, written from docs/RULES.md and from nothing else: patterns are parsed into a tree, positions
-//! get their sets by plain sets of numbers, links are counted in a table, readings are enumerated one by one, and the verdict
-//! is decided by strongly connected components. Ways through the tree, which know no positions, are counted besides. Nothing here
-//! is shared with the program under test, neither code nor idea.
+//! The rules once more, written from docs/RULES.md and from nothing else: patterns are parsed into a tree, in which an interval
+//! stands as it is written, and copied from there into a tree without intervals, whose letters are the positions. These get their sets
+//! by plain sets of numbers, links are counted in a table, readings are enumerated one by one, and the verdict is decided by strongly
+//! connected components. Ways through the tree as it is written, which know neither positions nor copies, are counted besides, and a
+//! pattern's intervals can be written out as text. Nothing here is shared with the program under test, neither code nor idea.
 
 use std::collections::{BTreeSet, HashSet};
 use std::ops::Range;
@@ -12,6 +13,14 @@ pub enum Part {
     Either(Vec<Part>),
     Joined(Vec<Part>),
     Repeat(u8, Box<Part>),
+    Interval(Bounds, Box<Part>),
+}
+
+/// `{m}` and `{m,n}` have an upper bound, `{m,}` has none.
+#[derive(Clone, Copy, Debug)]
+pub struct Bounds {
+    pub lower: usize,
+    pub upper: Option<usize>,
 }
 
 #[derive(Clone, Debug)]
@@ -24,7 +33,10 @@ pub struct Position {
 
 #[derive(Clone, Debug)]
 pub struct Pattern {
+    /// as it is written: the letters are the atoms
     pub tree: Part,
+    /// atom i is entry i - 1
+    pub atoms: Vec<Position>,
     /// position i is entry i - 1
     pub positions: Vec<Position>,
     pub empty: bool,
@@ -35,6 +47,8 @@ pub struct Pattern {
 }
 
 pub type Links = Vec<Vec<u64>>;
+
+type Table = Vec<Vec<u128>>;
 
 /// A reading's step: the position, and which of the links from the position before leads there. They are numbered from 0, and so
 /// is the one that leads to a first.
@@ -59,13 +73,22 @@ pub fn letters() -> impl Iterator<Item = u8> {
 struct Parser<'a> {
     text: &'a [u8],
     at: usize,
-    positions: Vec<Position>,
+    atoms: Vec<Position>,
     reversed: bool,
     hollow: bool,
+    misbounded: bool,
 }
 
 /// The grammar is broken.
 struct Broken;
+
+/// One to three decimal digits.
+fn bound(digits: &[u8]) -> Result<usize, Broken> {
+    if !(1..=3).contains(&digits.len()) || !digits.iter().all(u8::is_ascii_digit) {
+        return Err(Broken);
+    }
+    std::str::from_utf8(digits).ok().and_then(|d| d.parse().ok()).ok_or(Broken)
+}
 
 impl Parser<'_> {
     fn peek(&self) -> Option<u8> {
@@ -111,7 +134,26 @@ impl Parser<'_> {
                 self.at += 1;
                 Ok(Part::Repeat(k, Box::new(atom)))
             }
+            Some(b'{') => {
+                let bounds = self.bounds()?;
+                self.misbounded |= bounds.lower > 255 || bounds.upper.is_some_and(|n| n == 0 || n < bounds.lower || n > 255);
+                Ok(Part::Interval(bounds, Box::new(atom)))
+            }
             _ => Ok(atom),
+        }
+    }
+
+    /// What stands from `{` to the next `}`: one number, or one and `,`, or two with `,` between them.
+    fn bounds(&mut self) -> Result<Bounds, Broken> {
+        let rest = &self.text[self.at + 1..];
+        let inner = &rest[..rest.iter().position(|b| *b == b'}').ok_or(Broken)?];
+        self.at += inner.len() + 2;
+        let numbers: Vec<&[u8]> = inner.split(|b| *b == b',').collect();
+        match numbers[..] {
+            [m] => Ok(Bounds { lower: bound(m)?, upper: Some(bound(m)?) }),
+            [m, b""] => Ok(Bounds { lower: bound(m)?, upper: None }),
+            [m, n] => Ok(Bounds { lower: bound(m)?, upper: Some(bound(n)?) }),
+            _ => Err(Broken),
         }
     }
 
@@ -132,8 +174,8 @@ impl Parser<'_> {
         let from = self.at;
         let credit = self.credit()?;
         self.hollow |= letters.is_empty();
-        self.positions.push(Position { letters, credit, written: from..self.at });
-        Ok(Part::Letter(self.positions.len()))
+        self.atoms.push(Position { letters, credit, written: from..self.at });
+        Ok(Part::Letter(self.atoms.len()))
     }
 
     /// `=`, perhaps `-`, and one digit from 1 to 9; 0 where there is none.
@@ -182,6 +224,107 @@ impl Parser<'_> {
         }
         Ok(if others { letters().filter(|c| !named.contains(c)).collect() } else { named })
     }
+}
+
+/// How many positions a part has, each copy counted; more than 60 may be told as any number above.
+fn positions(part: &Part) -> usize {
+    let n = match part {
+        Part::Letter(_) => 1,
+        Part::Either(parts) | Part::Joined(parts) => parts.iter().map(positions).sum(),
+        Part::Repeat(_, p) => positions(p),
+        Part::Interval(b, p) => b.upper.unwrap_or(b.lower.max(1)) * positions(p),
+    };
+    n.min(1000)
+}
+
+/// The part without intervals, each copy of an atom a position of its own, numbered from the left: which atom each is goes to the list.
+fn copied(part: &Part, list: &mut Vec<usize>) -> Part {
+    let repeat = |k: u8, p: Part| Part::Repeat(k, Box::new(p));
+    match part {
+        Part::Letter(i) => {
+            list.push(*i);
+            Part::Letter(list.len())
+        }
+        Part::Either(parts) => Part::Either(parts.iter().map(|p| copied(p, list)).collect()),
+        Part::Joined(parts) => Part::Joined(parts.iter().map(|p| copied(p, list)).collect()),
+        Part::Repeat(k, p) => repeat(*k, copied(p, list)),
+        Part::Interval(b, p) => {
+            let copies = b.upper.unwrap_or(b.lower.max(1));
+            let mut all: Vec<Part> = (0..copies).map(|_| copied(p, list)).collect();
+            if b.upper.is_none() {
+                let last = all.pop().unwrap();
+                all.push(repeat(if b.lower == 0 { b'*' } else { b'+' }, last));
+            }
+            // each optional copy has the one after it inside
+            let optional = all.split_off(if b.upper.is_none() { copies } else { b.lower });
+            let inside = optional.into_iter().rev().reduce(|inner, p| Part::Joined(vec![p, repeat(b'?', inner)]));
+            all.extend(inside.map(|p| repeat(b'?', p)));
+            Part::Joined(all)
+        }
+    }
+}
+
+/// The text of the same pattern without an interval: the bytes of an atom stand there as often as its interval has copies, with `(` and
+/// `)?` around those that are optional. Nothing where there would be more than `most` bytes. For a pattern that follows the grammar and
+/// that refusal 11 does not name.
+pub fn written_out(text: &[u8], most: usize) -> Option<Vec<u8>> {
+    let mut out: Vec<u8> = Vec::new();
+    let mut open = Vec::new(); // where each bracket that is open begins
+    let mut atom = 0; // and where the last atom does
+    let mut rest = text;
+    while let Some(b) = rest.first() {
+        let mut taken = 1;
+        match b {
+            b'(' => open.push(out.len()),
+            b')' => atom = open.pop()?,
+            b'|' | b'*' | b'+' | b'?' => {}
+            b'=' => taken = if rest[1] == b'-' { 3 } else { 2 },
+            b'{' => {
+                let inner: &[u8] = rest[1..].split(|b| *b == b'}').next()?;
+                rest = &rest[inner.len() + 2..];
+                let copy = out.split_off(atom);
+                let number = |digits: &[u8]| digits.iter().fold(0, |n, d| 10 * n + usize::from(d - b'0'));
+                let (lower, upper) = match inner.iter().position(|b| *b == b',') {
+                    None => (number(inner), Some(number(inner))),
+                    Some(k) if k + 1 == inner.len() => (number(&inner[..k]), None),
+                    Some(k) => (number(&inner[..k]), Some(number(&inner[k + 1..]))),
+                };
+                if out.len() + upper.unwrap_or(lower).max(1) * (copy.len() + 3) > most {
+                    return None;
+                }
+                match upper {
+                    None if lower == 0 => out.extend([&copy[..], b"*"].concat()),
+                    None => out.extend([&copy.repeat(lower)[..], b"+"].concat()),
+                    Some(n) => {
+                        out.extend(copy.repeat(lower));
+                        out.extend([b"(", &copy[..]].concat().repeat(n - lower));
+                        out.extend(b")?".repeat(n - lower));
+                    }
+                }
+                continue;
+            }
+            _ => {
+                atom = out.len();
+                taken = match b {
+                    b'\\' => 2,
+                    b'[' => class_len(rest),
+                    _ => 1,
+                };
+            }
+        }
+        out.extend(&rest[..taken]);
+        rest = &rest[taken..];
+    }
+    (out.len() <= most).then_some(out)
+}
+
+/// How many bytes the class has that a text begins with.
+fn class_len(text: &[u8]) -> usize {
+    let mut at = 1;
+    while text[at] != b']' {
+        at += if text[at] == b'\\' { 2 } else { 1 };
+    }
+    at + 1
 }
 
 /// What the rules say of each part.
@@ -234,18 +377,24 @@ fn facts(part: &Part, links: &mut Links) -> Facts {
             f.empty |= *k != b'+';
             f
         }
+        Part::Interval(..) => unreachable!("intervals are written out"),
     }
 }
 
-/// The pattern, or its refusal from 3 to 8.
+/// The pattern, or its refusal: 3 to 7, 11 or 8.
 pub fn read(text: &[u8]) -> Result<Pattern, u8> {
     if text.len() > 512 {
         return Err(3);
     }
+    read_any_length(text)
+}
+
+/// The same where the pattern may be longer.
+pub fn read_any_length(text: &[u8]) -> Result<Pattern, u8> {
     if text.iter().any(|b| !is_letter(*b)) {
         return Err(4);
     }
-    let mut parser = Parser { text, at: 0, positions: Vec::new(), reversed: false, hollow: false };
+    let mut parser = Parser { text, at: 0, atoms: Vec::new(), reversed: false, hollow: false, misbounded: false };
     let tree = match parser.pattern() {
         Ok(tree) if parser.at == text.len() => tree,
         _ => return Err(5),
@@ -256,13 +405,19 @@ pub fn read(text: &[u8]) -> Result<Pattern, u8> {
     if parser.hollow {
         return Err(7);
     }
-    if parser.positions.len() > 60 {
+    if parser.misbounded {
+        return Err(11);
+    }
+    if positions(&tree) > 60 {
         return Err(8);
     }
-    let states = parser.positions.len() + 1;
-    let mut links = vec![vec![0; states]; states];
-    let f = facts(&tree, &mut links);
-    Ok(Pattern { tree, positions: parser.positions, empty: f.empty, firsts: f.firsts, lasts: f.lasts, links })
+    let atoms = parser.atoms;
+    let mut list = Vec::new();
+    let whole = copied(&tree, &mut list);
+    let mut links = vec![vec![0; list.len() + 1]; list.len() + 1];
+    let f = facts(&whole, &mut links);
+    let positions = list.into_iter().map(|i| atoms[i - 1].clone()).collect();
+    Ok(Pattern { tree, atoms, positions, empty: f.empty, firsts: f.firsts, lasts: f.lasts, links })
 }
 
 impl Pattern {
@@ -272,7 +427,7 @@ impl Pattern {
 
     /// The pattern's text without its credits.
     pub fn without_credits(&self, text: &[u8]) -> Vec<u8> {
-        let credit = |k: usize| self.positions.iter().any(|i| i.written.contains(&k));
+        let credit = |k: usize| self.atoms.iter().any(|i| i.written.contains(&k));
         (0..text.len()).filter(|k| !credit(*k)).map(|k| text[k]).collect()
     }
 
@@ -357,42 +512,56 @@ impl Pattern {
     }
 
     /// The number of ways through the tree that read the answer, up to a limit: which branch is taken, where a piece of a branch
-    /// ends, and where each round of a repeat ends. A round reads one letter or more, and what is empty is so in one way.
+    /// ends, and where each round of a repeat ends. A round of `*` or `+` reads one letter or more, and what is empty is so in one way.
+    /// An interval has its rounds one after the other: those that it must have, and then as many more as it may have, of which one
+    /// is begun only if there is a letter left to read.
     pub fn ways(&self, answer: &[u8], limit: u128) -> u128 {
         self.ways_of(&self.tree, answer, limit)[0][answer.len()]
     }
 
     /// Entry i, j: the number of ways in which the part reads the letters from i to before j.
-    fn ways_of(&self, part: &Part, answer: &[u8], limit: u128) -> Vec<Vec<u128>> {
+    fn ways_of(&self, part: &Part, answer: &[u8], limit: u128) -> Table {
         let n = answer.len();
         let sum = |terms: &mut dyn Iterator<Item = u128>| terms.fold(0, u128::saturating_add).min(limit);
-        let table = |entry: &dyn Fn(usize, usize) -> u128| -> Vec<Vec<u128>> {
+        let table = |entry: &dyn Fn(usize, usize) -> u128| -> Table {
             (0..=n).map(|i| (0..=n).map(|j| if i <= j { entry(i, j) } else { 0 }).collect()).collect()
         };
+        let then = |a: Table, b: Table| table(&|i, j| sum(&mut (i..=j).map(|k| a[i][k].saturating_mul(b[k][j]))));
+        // one round or more
+        let rounds = |once: Table| {
+            let mut t = once.clone();
+            for i in (0..n).rev() {
+                for j in i + 1..=n {
+                    t[i][j] = sum(&mut (i + 1..=j).map(|k| once[i][k].saturating_mul(if k == j { 1 } else { t[k][j] })));
+                }
+            }
+            t
+        };
         match part {
-            Part::Letter(p) => table(&|i, j| u128::from(i + 1 == j && self.holds(*p, answer[i]))),
+            Part::Letter(p) => table(&|i, j| u128::from(i + 1 == j && self.atoms[*p - 1].letters.contains(&answer[i]))),
             Part::Either(parts) => {
                 let all: Vec<_> = parts.iter().map(|p| self.ways_of(p, answer, limit)).collect();
                 table(&|i, j| sum(&mut all.iter().map(|t| t[i][j])).min(if i == j { 1 } else { limit }))
             }
             Part::Joined(parts) => {
                 let all = parts.iter().map(|p| self.ways_of(p, answer, limit));
-                all.reduce(|a, b| table(&|i, j| sum(&mut (i..=j).map(|k| a[i][k].saturating_mul(b[k][j]))))).unwrap()
+                all.reduce(then).unwrap()
             }
             Part::Repeat(k, p) => {
-                let mut t = self.ways_of(p, answer, limit);
-                if *k != b'?' {
-                    let once = t.clone();
-                    for i in (0..n).rev() {
-                        for j in i + 1..=n {
-                            t[i][j] = sum(&mut (i + 1..=j).map(|k| once[i][k].saturating_mul(if k == j { 1 } else { t[k][j] })));
-                        }
-                    }
-                }
-                for (i, row) in t.iter_mut().enumerate() {
-                    row[i] |= u128::from(*k != b'+');
-                }
-                t
+                let once = self.ways_of(p, answer, limit);
+                let t = if *k == b'?' { once } else { rounds(once) };
+                table(&|i, j| if i == j { t[i][j] | u128::from(*k != b'+') } else { t[i][j] })
+            }
+            Part::Interval(b, p) => {
+                let once = self.ways_of(p, answer, limit);
+                let nothing = table(&|i, j| u128::from(i == j));
+                let or_nothing = |t: Table| table(&|i, j| if i == j { 1 } else { t[i][j] });
+                let (must, rest) = match b.upper {
+                    Some(n) => (b.lower, (b.lower..n).fold(nothing, |t, _| or_nothing(then(once.clone(), t)))),
+                    None if b.lower == 0 => (0, or_nothing(rounds(once.clone()))),
+                    None => (b.lower - 1, rounds(once.clone())),
+                };
+                (0..must).fold(rest, |t, _| then(once.clone(), t))
             }
         }
     }

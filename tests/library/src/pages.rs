@@ -17,7 +17,7 @@ use std::fs;
 use std::path::{Path, PathBuf};
 
 /// The pages, and how many claims each makes.
-const PAGES: [(&str, u32); 3] = [("README.md", 6), ("docs/RULES.md", 212), ("docs/VERDICTS.md", 309)];
+const PAGES: [(&str, u32); 3] = [("README.md", 8), ("docs/RULES.md", 320), ("docs/VERDICTS.md", 437)];
 
 /// Tables that make no claim of this kind, by their headers.
 const WORDS: [&str; 5] = [
@@ -299,10 +299,13 @@ impl Row<'_> {
         }
     }
 
-    /// pattern, and its refusal, or its verdict with the number of positions and the texts shown.
+    /// pattern, and its refusal, or its verdict with the number of positions and the texts shown, or the same pattern written out.
     fn pattern(&self, t: &mut Tally, pattern: &[u8]) {
         self.is_number(t, "refusal", refusal(pattern));
         self.is_word(t, "verdict", verdict(pattern));
+        if let Some(copies) = self.text(t, "written out") {
+            self.written_out(t, pattern, &copies);
+        }
         let Ok(Vetted::Verdict { positions, texts, .. }) = vet(pattern, EVIDENCE, 1) else { return };
         self.is_number(t, "positions", positions as u64);
         for (column, shown) in [("text", &texts[0]), ("x", &texts[0]), ("y", &texts[1]), ("z", &texts[2])] {
@@ -310,6 +313,14 @@ impl Row<'_> {
                 t.same(show(shown), show(&want), &format!("{}: {column}", self.name));
             }
         }
+    }
+
+    /// a pattern with an interval and the same without: verdict, positions and texts shown, and the counts and marks of short texts.
+    fn written_out(&self, t: &mut Tally, pattern: &[u8], copies: &[u8]) {
+        let (a, b) = (vet(pattern, EVIDENCE, 1), vet(copies, EVIDENCE, 1));
+        t.check(a == b && refusal(copies) == 0, || format!("{}: got {a:?} and {b:?}", self.name));
+        let differ = short_texts(pattern, copies).into_iter().find(|s| counted(pattern, s) != counted(copies, s));
+        t.check(differ.is_none(), || format!("{}: not the same on {}", self.name, show(differ.as_ref().unwrap())));
     }
 
     /// refused, its refusal, and what to write, which reads an answer.
@@ -417,8 +428,12 @@ fn phrase(t: &mut Tally, page: &str, parts: &[&str], from: usize) {
         if words.starts_with(" break the grammar") || words.starts_with(" breaks the grammar") {
             t.same(refusal(s), 5, &name);
         }
-        if words.starts_with(" is good") {
+        if words.starts_with(" is good") || words.starts_with(" are good") {
             t.same(refusal(s), 0, &name);
+        }
+        if let Some(k) = words.strip_prefix(" is refused by ") {
+            let digits = k.find(|c: char| !c.is_ascii_digit()).unwrap_or(k.len());
+            t.same(Some(refusal(s)), number(&k[..digits]), &name);
         }
         if words.starts_with(" are refused by 4 unless they are converted") {
             let raw = not_converted(&show(s)).map(|r| refusal(&r));

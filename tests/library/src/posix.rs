@@ -1,6 +1,8 @@
 //! A second opinion on membership: the platform's regcomp and regexec, on the pattern written out as a POSIX extended
-//! expression with one bracket expression for each position. The tests set no locale, and in that of C regcomp takes each byte for a
-//! letter of its own, those above 127 too. Ranges are written out, so that no order of letters plays a part.
+//! expression with one bracket expression for each atom. The tests set no locale, and in that of C regcomp takes each byte for a
+//! letter of its own, those above 127 too. Ranges are written out, so that no order of letters plays a part. Intervals stand as they
+//! are: every bound of an accepted pattern is one that POSIX asks for (RE_DUP_MAX is 255 or more), and what POSIX takes beyond, such as
+//! `a{0}`, is refused and never comes here.
 
 use crate::model::{Part, Pattern};
 use std::ffi::{c_char, c_int, c_void, CString};
@@ -39,7 +41,7 @@ fn bracket(letters: impl Iterator<Item = u8>, out: &mut Vec<u8>) {
 fn written(p: &Pattern, part: &Part, out: &mut Vec<u8>) {
     out.push(b'(');
     match part {
-        Part::Letter(i) => bracket(p.positions[*i - 1].letters.iter().copied(), out),
+        Part::Letter(i) => bracket(p.atoms[*i - 1].letters.iter().copied(), out),
         Part::Either(parts) => {
             for (k, q) in parts.iter().enumerate() {
                 if k > 0 {
@@ -53,16 +55,33 @@ fn written(p: &Pattern, part: &Part, out: &mut Vec<u8>) {
             written(p, q, out);
             out.push(*k);
         }
+        Part::Interval(b, q) => {
+            written(p, q, out);
+            let upper = b.upper.map_or(String::new(), |n| n.to_string());
+            out.extend(format!("{{{},{upper}}}", b.lower).bytes());
+        }
     }
     out.push(b')');
 }
 
-/// How many repeats stand one in another. The time that regcomp takes can double with each.
+/// How many repeats stand one in another, and how many copies of what can be empty: an interval counts as one repeat, or as its copies
+/// where the atom can be empty. The time that regcomp takes can double with each.
 pub fn nested_repeats(part: &Part) -> usize {
     match part {
         Part::Letter(_) => 0,
         Part::Either(parts) | Part::Joined(parts) => parts.iter().map(nested_repeats).max().unwrap_or(0),
         Part::Repeat(_, q) => nested_repeats(q) + 1,
+        Part::Interval(b, q) => nested_repeats(q) + if can_be_empty(q) { b.upper.unwrap_or(b.lower).max(1) } else { 1 },
+    }
+}
+
+fn can_be_empty(part: &Part) -> bool {
+    match part {
+        Part::Letter(_) => false,
+        Part::Either(parts) => parts.iter().any(can_be_empty),
+        Part::Joined(parts) => parts.iter().all(can_be_empty),
+        Part::Repeat(k, q) => *k != b'+' || can_be_empty(q),
+        Part::Interval(b, q) => b.lower == 0 || can_be_empty(q),
     }
 }
 

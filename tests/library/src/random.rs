@@ -1,6 +1,6 @@
 //! Random patterns and answers, from a seed that is printed.
 
-use crate::model::{letters, Part, Pattern};
+use crate::model::{self, letters, Part, Pattern};
 
 /// xorshift64*
 pub struct Random(u64);
@@ -30,11 +30,13 @@ impl Random {
     }
 }
 
-/// What a random pattern is made of: `wild` ones often break the grammar, `accented` ones have letters above code 159 too.
+/// What a random pattern is made of: `wild` ones often break the grammar, `accented` ones have letters above code 159 too, `counted`
+/// ones have intervals.
 #[derive(Clone, Copy)]
 struct Kind {
     wild: bool,
     accented: bool,
+    counted: bool,
 }
 
 /// The letters that most random patterns are made of: few, so that sets overlap.
@@ -52,6 +54,46 @@ const ACCENTED_WILD: &[&[u8]] =
 
 /// What a wild pattern may have for a credit. The grammar is broken, unless a digit comes right after `=` or `=-`.
 const NO_CREDITS: &[&[u8]] = &[b"=0", b"=", b"=-", b"=-0", b"=+1", b"=--1", b"=-1=1", b"=1=-1", b"=- 1", b"*=-1"];
+
+/// What a wild pattern may have for an interval, and breaks the grammar by that, most of them wherever they stand.
+const NO_INTERVALS: &[&[u8]] = &[
+    b"{}", b"{,}", b"{,3}", b"{ 1}", b"{1 }", b"{1;2}", b"{-1}", b"{1,2,3}", b"{1,,2}", b"{1", b"{1,", b"{1,2", b"{", b"1}", b"{a}", b"{0001}", b"{1000}",
+    b"{1,1000}", b"{0001,}", b"{2}{2}", b"{2}*", b"*{2}", b"+{1,}", b"?{0,1}", b"{1}+", b"{1,2}?", b"{2}=1", b"{=1}",
+];
+
+/// What is refused for its bounds, or for too many positions.
+const BAD_BOUNDS: &[&[u8]] =
+    &[b"{0}", b"{0,0}", b"{00}", b"{3,2}", b"{1,0}", b"{999,1}", b"{256}", b"{256,}", b"{2,256}", b"{0,999}", b"{61}", b"{255}", b"{0,255}"];
+
+/// An interval, mostly of few copies.
+fn interval(r: &mut Random, out: &mut Vec<u8>, wild: bool) {
+    if wild && r.chance(15) {
+        out.extend(*r.pick(NO_INTERVALS));
+        return;
+    }
+    if r.chance(if wild { 15 } else { 2 }) {
+        out.extend(*r.pick(BAD_BOUNDS));
+        return;
+    }
+    let most = if r.chance(5) { 20 } else { 3 };
+    let (lower, more) = (r.below(most), r.below(most));
+    let zeros = if r.chance(10) { "0" } else { "" };
+    let text = match r.below(5) {
+        0 => format!("{{{zeros}{lower},}}"),
+        1 | 2 => format!("{{{zeros}{}}}", lower.max(1)),
+        _ => format!("{{{zeros}{lower},{}}}", (lower + more).max(1)),
+    };
+    out.extend(text.bytes());
+}
+
+/// One of some repeats, or an interval where the pattern has them.
+fn repeat(r: &mut Random, out: &mut Vec<u8>, marks: &[u8], kind: Kind) {
+    if kind.counted && r.chance(50) {
+        interval(r, out, kind.wild);
+    } else {
+        out.push(*r.pick(marks));
+    }
+}
 
 /// A range of any two letters, perhaps with `^`; a wild one may be reversed.
 fn range(r: &mut Random, out: &mut Vec<u8>, wild: bool) {
@@ -109,7 +151,7 @@ fn nested(r: &mut Random, out: &mut Vec<u8>, depth: usize, kind: Kind) {
     for _ in 0..times {
         out.push(b')');
         if r.chance(90) {
-            out.push(*r.pick(b"***++?"));
+            repeat(r, out, b"***++?", kind);
         }
     }
 }
@@ -127,9 +169,9 @@ fn piece(r: &mut Random, out: &mut Vec<u8>, depth: usize, kind: Kind) {
         lettered(r, out, kind);
     }
     if r.chance(45) {
-        out.push(*r.pick(b"**+?"));
+        repeat(r, out, b"**+?", kind);
         if kind.wild && r.chance(4) {
-            out.push(*r.pick(b"*+?"));
+            repeat(r, out, b"*+?", kind);
         }
     }
 }
@@ -145,11 +187,11 @@ fn pattern_into(r: &mut Random, out: &mut Vec<u8>, depth: usize, kind: Kind) {
     }
 }
 
-/// A pattern that follows the grammar, most of the time; `wild` ones often do not. A fifth are accented.
+/// A pattern that follows the grammar, most of the time; `wild` ones often do not. A fifth are accented, and two fifths have intervals.
 pub fn pattern(r: &mut Random, wild: bool) -> Vec<u8> {
     let mut out = Vec::new();
-    let kind = Kind { wild, accented: r.chance(20) };
-    let depth = r.below(4);
+    let kind = Kind { wild, accented: r.chance(20), counted: r.chance(40) };
+    let depth = r.below(if kind.counted { 3 } else { 4 });
     pattern_into(r, &mut out, depth, kind);
     out.truncate(520);
     if wild && r.chance(30) && !out.is_empty() {
@@ -159,7 +201,7 @@ pub fn pattern(r: &mut Random, wild: bool) -> Vec<u8> {
             1 => {
                 out.remove(at);
             }
-            _ => out.insert(at, *r.pick(b"|*+?()[]{}^$.\\=-a\xe9")),
+            _ => out.insert(at, *r.pick(b"|*+?()[]{}^$.\\=-a\xe9,1")),
         }
     }
     out
@@ -168,10 +210,49 @@ pub fn pattern(r: &mut Random, wild: bool) -> Vec<u8> {
 /// Repeats in repeats around a pattern, so that an answer may have many rounds.
 pub fn rounds(r: &mut Random) -> Vec<u8> {
     let mut out = vec![b'('];
-    let kind = Kind { wild: false, accented: r.chance(20) };
+    let kind = Kind { wild: false, accented: r.chance(20), counted: r.chance(30) };
     let depth = r.below(2);
     nested(r, &mut out, depth, kind);
     out.extend(b")*");
+    out
+}
+
+/// As many copies of a small pattern as there are positions for, or some less, or one copy too many; in one interval or in two, one in the
+/// other, perhaps with a repeat around, and letters after it up to the last position.
+pub fn copies(r: &mut Random) -> Vec<u8> {
+    let kind = Kind { wild: false, accented: r.chance(20), counted: r.chance(40) };
+    let mut small = Vec::new();
+    let depth = r.below(2);
+    pattern_into(r, &mut small, depth, kind);
+    if r.chance(25) {
+        small.extend(b"[abcdefghijklmnopqrstuvwxyz0123456789]"); // in copies more than 512 bytes
+    }
+    let each = model::read(&small).map_or(60, |p| p.positions.len());
+    let room = 60 / each;
+    let inner = if r.chance(40) { 1 + r.below(room.min(5)) } else { 1 };
+    let copies = match room / inner {
+        n if r.chance(15) => n + 1,
+        n if r.chance(30) => 1 + r.below(n),
+        n => n,
+    };
+    let left = 60usize.saturating_sub(each * inner * copies);
+    let bounds = |r: &mut Random, n: usize| match r.below(4) {
+        0 => format!("{{{n}}}"),
+        1 => format!("{{{n},}}"),
+        2 => format!("{{{},{n}}}", r.below(n + 1)),
+        _ => format!("{{{},{n}}}", n.saturating_sub(r.below(3))),
+    };
+    let mut out = [b"(", &small[..], b")"].concat();
+    if inner > 1 {
+        out = [b"(", &out[..], bounds(r, inner).as_bytes(), b")"].concat();
+    }
+    out.extend(bounds(r, copies).bytes());
+    if r.chance(20) {
+        out = [b"(", &out[..], b")", *r.pick(&[&b"*"[..], b"+", b"?"])].concat();
+    }
+    if r.chance(40) {
+        out.extend(vec![b'a'; left + r.below(2)]);
+    }
     out
 }
 
@@ -183,7 +264,7 @@ fn walk(r: &mut Random, p: &Pattern, part: &Part, out: &mut Vec<u8>, left: &mut 
     *left -= 1;
     match part {
         Part::Letter(i) => {
-            let set: Vec<u8> = p.positions[*i - 1].letters.iter().copied().collect();
+            let set: Vec<u8> = p.atoms[*i - 1].letters.iter().copied().collect();
             if !set.is_empty() {
                 // mostly a low one, so that others hold it too
                 let among = if r.chance(20) { set.len() } else { set.len().min(4) };
@@ -209,6 +290,11 @@ fn walk(r: &mut Random, p: &Pattern, part: &Part, out: &mut Vec<u8>, left: &mut 
                 walk(r, p, q, out, left);
             }
         }
+        Part::Interval(b, q) => {
+            for _ in 0..b.lower + r.below(b.upper.map_or(3, |n| n - b.lower + 1)) {
+                walk(r, p, q, out, left);
+            }
+        }
     }
 }
 
@@ -222,7 +308,7 @@ pub fn answer(r: &mut Random, p: &Pattern) -> Vec<u8> {
         return out;
     }
     walk(r, p, &p.tree, &mut out, &mut 1000);
-    out.truncate(10);
+    out.truncate(if p.atoms.len() < p.positions.len() { 70 } else { 10 });
     if r.chance(20) && !out.is_empty() {
         let at = r.below(out.len());
         out[at] = *r.pick(b"abc~ \xa0\xe9\xff");

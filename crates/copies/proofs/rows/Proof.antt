@@ -27,14 +27,14 @@ element-copy-out-moved c = omega (arith, c .before .before .pre .2)
 moved-requires : tie.Need-moved-requires Inv-loop μ-loop
 moved-requires c κs = omega (arith, c .before .before .before .pre .2)
 
-add-table : tie.Need-add-table Inv-loop μ-loop
-add-table c = omega (arith, c .before .before .before .before .pre .2)
+add-rows : tie.Need-add-rows Inv-loop μ-loop
+add-rows c = omega (arith, c .before .before .before .before .pre .2)
 
-mul-table : tie.Need-mul-table Inv-loop μ-loop
-mul-table c = omega (arith, c .before .before .before .before .pre .2)
+mul-rows : tie.Need-mul-rows Inv-loop μ-loop
+mul-rows c = omega (arith, c .before .before .before .before .pre .2)
 
-element-write-table : tie.Need-element-write-table Inv-loop μ-loop
-element-write-table c = omega (arith, c .before .before .before .before .pre .2)
+element-write-rows : tie.Need-element-write-rows Inv-loop μ-loop
+element-write-rows c = omega (arith, c .before .before .before .before .pre .2)
 
 add-i : tie.Need-add-i Inv-loop μ-loop
 add-i c = omega arith
@@ -49,7 +49,7 @@ loop-again c =
     (omega arith, omega arith, repeats-more (Moved (start .args .by)) _ _ _ _ _ _ (start .pre .0) (at .inv .0) (omega (arith, at .inv .2 .size, start .pre .2, start .pre .3)) (c .moved .ensures) (at .inv .2))
 
 returns : tie.Need-returns Inv-loop μ-loop
-returns c = let at = c .before .loop in let same : at .i ≡ c .before .before .args .to = omega arith in subst (λ (i : ℕ). Repeats (Moved (c .before .before .args .by)) (c .before .before .args .from) i (c .before .before .args .by) (c .before .before .args .table .now) (at .table)) same (at .inv .2)
+returns c = let at = c .before .loop in let same : at .i ≡ c .before .before .args .to = omega arith in subst (λ (i : ℕ). Repeats (Moved (c .before .before .args .by)) (c .before .before .args .from) i (c .before .before .args .by) (c .before .before .args .rows .now) (at .rows)) same (at .inv .2)
 
 pub rows-spec : {M : Type 1} → statement M
-rows-spec = tie.close (tie.spec Inv-loop μ-loop loop-holds mul-moved element-copy-out-moved moved-requires add-table mul-table element-write-table add-i loop-less loop-again returns)
+rows-spec = tie.close (tie.spec Inv-loop μ-loop loop-holds mul-moved element-copy-out-moved moved-requires add-rows mul-rows element-write-rows add-i loop-less loop-again returns)

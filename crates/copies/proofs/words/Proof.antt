@@ -18,20 +18,20 @@ abbrev μ-loop : tie.MeasureT-loop
 loop-holds : tie.Need-loop-holds Inv-loop μ-loop
 loop-holds c = (omega arith, c .pre .1, repeats-none Same _ _ _)
 
-mul-table : tie.Need-mul-table Inv-loop μ-loop
-mul-table c = search needs
+mul-words : tie.Need-mul-words Inv-loop μ-loop
+mul-words c = search needs
 
-slice-read-table : tie.Need-slice-read-table Inv-loop μ-loop
-slice-read-table c = let at = c .before .before .loop in omega (arith, at .inv .2 .size, c .before .before .before .pre .2)
+slice-read-words : tie.Need-slice-read-words Inv-loop μ-loop
+slice-read-words c = let at = c .before .before .loop in omega (arith, at .inv .2 .size, c .before .before .before .pre .2)
 
-add-table : tie.Need-add-table Inv-loop μ-loop
-add-table c = let at = c .before .before .loop in omega (arith, at .inv .2 .size, c .before .before .before .pre .2)
+add-words : tie.Need-add-words Inv-loop μ-loop
+add-words c = let at = c .before .before .loop in omega (arith, at .inv .2 .size, c .before .before .before .pre .2)
 
-mul-table-2 : tie.Need-mul-table-2 Inv-loop μ-loop
-mul-table-2 c = search needs
+mul-words-2 : tie.Need-mul-words-2 Inv-loop μ-loop
+mul-words-2 c = search needs
 
-slice-write-table : tie.Need-slice-write-table Inv-loop μ-loop
-slice-write-table c = let at = c .before .before .loop in omega (arith, at .inv .2 .size, c .before .before .before .pre .2)
+slice-write-words : tie.Need-slice-write-words Inv-loop μ-loop
+slice-write-words c = let at = c .before .before .loop in omega (arith, at .inv .2 .size, c .before .before .before .pre .2)
 
 add-i : tie.Need-add-i Inv-loop μ-loop
 add-i c = omega arith
@@ -49,7 +49,7 @@ same-length : tie.Need-same-length Inv-loop μ-loop
 same-length c = c .before .loop .inv .2 .size
 
 returns : tie.Need-returns Inv-loop μ-loop
-returns c = let at = c .before .loop in let same : at .i ≡ c .before .before .args .to = omega arith in subst (λ (i : ℕ). Repeats Same (c .before .before .args .from) i (c .before .before .args .by) (c .before .before .args .table .now) (at .table)) same (at .inv .2)
+returns c = let at = c .before .loop in let same : at .i ≡ c .before .before .args .to = omega arith in subst (λ (i : ℕ). Repeats Same (c .before .before .args .from) i (c .before .before .args .by) (c .before .before .args .words .now) (at .words)) same (at .inv .2)
 
 pub words-spec : {M : Type 1} → statement M
-words-spec = tie.close (tie.spec Inv-loop μ-loop loop-holds mul-table slice-read-table add-table mul-table-2 slice-write-table add-i loop-less loop-again same-length returns)
+words-spec = tie.close (tie.spec Inv-loop μ-loop loop-holds mul-words slice-read-words add-words mul-words-2 slice-write-words add-i loop-less loop-again same-length returns)
