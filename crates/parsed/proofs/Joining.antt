@@ -34,7 +34,7 @@ has-nothing at n m empty low = record {
   stores = λ h al l st. subst (λ (x : List Atom). Stored x (m .sets) (m .credits)) (sym (append-nil al)) st;
 }
 
-pub has-letter : (n : ℕ) (rows more sets credits sets′ credits′ : List ℕ) (x : Atom) (at count own : ℕ) (reversed hollow : Bool) → count ≡ min (n + 1) 61 → Marks own (λ b. eqb b (n + 1))
+pub has-letter : (n : ℕ) (rows more sets credits sets′ credits′ : List ℕ) (x : Atom) (at count own : ℕ) (reversed hollow : Bool) → count ≡ min (n + 1) 61 → (n + 1 ≤ 60 → Marks own (λ b. eqb b (n + 1)))
     → reversed ≡ someReversed (x .items) → hollow ≡ not (someLetter (holds x)) → (n + 1 ≤ 60 → (al : List Atom) → length al ≡ n → Stored al sets credits → Stored (al ++ (x ∷ [])) sets′ credits′)
     → Has n (memory rows more sets credits) (memory rows more sets′ credits′) (shapeOf (letter x)) record { good = true; at = at; n = count; empty = false; firsts = own; lasts = own; reversed = reversed; hollow = hollow; misbounded = false; doubled = false }
 has-letter n rows more sets credits sets′ credits′ x at count own reversed hollow cuts m turned empty stored = record {
@@ -42,12 +42,12 @@ has-letter n rows more sets credits sets′ credits′ x at count own reversed h
   reversed = turned ∙ sym (or-false (someReversed (x .items)));
   hollow = empty ∙ sym (or-false (not (someLetter (holds x))));
   misbounded = refl;
-  keeps = λ h c. record { empty = refl; firsts = mine; lasts = mine; adds = adds-none rows; counts = λ a b k l. refl; none = λ e. refl };
+  keeps = λ h c. record { empty = refl; firsts = mine h; lasts = mine h; adds = adds-none rows; counts = λ a b k l. refl; none = λ e. refl };
   stores = stored;
 }
   where
-    mine : Marks own (isFirst n (letter x))
-    mine b = m b ∙ ap (λ (i : ℕ). kept b && eqb b i) (add-one n)
+    mine : n + 1 ≤ 60 → Marks own (isFirst n (letter x))
+    mine h b = m h b ∙ ap (λ (i : ℕ). kept b && eqb b i) (add-one n)
 
 -- ---- another result with the same sets
 

@@ -34,7 +34,7 @@ stands-not s at n m m′ good x rest r e h = record { same = e ∙ sym h; gives 
 
 -- ---- a lettered atom
 
-pub letter-stands : (s : List ℕ) (at n own count : ℕ) (sets credits sets′ credits′ : List ℕ) (R : Read) (l : Lettered) → ReadsAtom s at R l → l .good ≡ true → count ≡ min (n + 1) 61 → Marks own (λ b. eqb b (n + 1))
+pub letter-stands : (s : List ℕ) (at n own count : ℕ) (sets credits sets′ credits′ : List ℕ) (R : Read) (l : Lettered) → ReadsAtom s at R l → l .good ≡ true → count ≡ min (n + 1) 61 → (n + 1 ≤ 60 → Marks own (λ b. eqb b (n + 1)))
     → length credits ≡ 61 → (n + 1 ≤ 60 → Filled (n + 1) (l .set) (l .credit) sets credits sets′ credits′)
     → Letters s at n sets credits sets′ credits′ R record { good = true; at = l .at; n = count; empty = false; firsts = own; lasts = own; reversed = l .reversed; hollow = l .hollow; misbounded = false; doubled = false }
 letter-stands s at n own count sets credits sets′ credits′ R l w g cuts m long put rows more =

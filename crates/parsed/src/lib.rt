@@ -115,7 +115,7 @@ pub fn letter(s: &[u8], at: usize, n: usize, sets: &mut [u64], credits: &mut [u8
         return none;
     }
     let set = a.set;
-    let k = n + 1;
+    let k = cut(n + 1);
     if k < 61 {
         set_table::write(&mut *sets, k, set);
         credits[k] = a.credit;
@@ -124,7 +124,7 @@ pub fn letter(s: &[u8], at: usize, n: usize, sets: &mut [u64], credits: &mut [u8
     Parsed {
         good: true,
         at: a.at,
-        n: cut(k),
+        n: k,
         empty: false,
         firsts: own,
         lasts: own,

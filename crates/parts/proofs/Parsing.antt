@@ -27,7 +27,7 @@ use Rattle.parsed.specs.Parsed.{Shape, Memory, memory, Has, Stands, closedRead,
 use Rattle.parsed.proofs.Standing.{stands-as}
 use Rattle.repeats.specs.Repeats.{Placed}
 use Rattle.repeats.proofs.Intervals.{placed}
-use Rattle.parts.specs.Parsing.{Parses, barNext, Whole}
+use Rattle.parts.specs.Parsing.{Parses, atomFrom, barNext, Whole}
 
 -- ---- a result
 
@@ -50,40 +50,47 @@ pub parses-as : (F : ℕ → List ℕ → Read) (rank : ℕ) (s : List ℕ) (at 
     → Parses F rank s at n m (memory rows′ more′ sets′ credits′) r′ → Parses F rank s at n m (memory rows more sets credits) r
 parses-as F rank s at n m d h e f g = subst (λ (x : Memory × Parsed). Parses F rank s at n m (x .0) (x .1)) (sym (λ i. (memory (d i) (h i) (e i) (f i), g i)))
 
--- ---- a piece: a lettered atom, or a pattern in `( )`
+-- ---- an atom: a lettered one, or a pattern in `( )`
+
+pub atom-letter : (s : List ℕ) (at n : ℕ) (m m′ : Memory) (r : Parsed) → (peek (drop at s) ≡ code "(" → ⊥) → Stands s at n m m′ (readLetter (drop at s)) r → Parses atomFrom 0 s at n m m′ r
+atom-letter s at n m m′ r d w zero h = absurd (omega arith)
+atom-letter s at n m m′ r d w (suc f) h =
+    let l = drop at s in
+    stands-as s at n m m′ r (if-no (closedRead (patternFrom f (drop 1 l))) (readLetter l) (eqb (peek l) (code "(")) (ne-eqb (peek l) (code "(") d)) w
+
+pub atom-open : (s : List ℕ) (at n : ℕ) (m now : Memory) (i a : Parsed) → peek (drop at s) ≡ code "(" → Parses patternFrom 2 s (at + 1) n m now i → Changes closedRead s n now now i a → Parses atomFrom 0 s at n m now a
+atom-open s at n m now i a e d closes zero h = absurd (omega arith)
+atom-open s at n m now i a e d closes (suc f) h =
+    let l = drop at s in
+    let X = patternFrom f (drop 1 l) in
+    let inside : at < length s = next-within s at (omega arith) in
+    let w : Stands s at n m now (patternFrom f (drop (at + 1) s)) i = stands-from s at (at + 1) n m now (patternFrom f (drop (at + 1) s)) i (omega arith) (d f (omega arith)) in
+    stands-as s at n m now a (if-yes (closedRead X) (readLetter l) (eqb (peek l) (code "(")) (eq-eqb (peek l) (code "(") e)) (closes at m X (stands-as s at n m now i (ap (patternFrom f) (drop-drop 1 at s)) w))
+
+-- ---- a piece: an atom, repeated
 
 repeated-if : (t : Bool) (X : Read) → _≡_ {A = Read} (if t then repeated X else broken) (repeated (if t then X else broken))
 repeated-if true X = refl
 repeated-if false X = refl
 
-piece-step : (f : ℕ) (l : List ℕ) → pieceFrom (suc f) l ≡ (if eqb (peek l) (code "(") then repeated (closedRead (patternFrom f (drop 1 l))) else repeated (readLetter l))
+repeated-either : (t : Bool) (X Y : Read) → _≡_ {A = Read} (if t then repeated X else repeated Y) (repeated (if t then X else Y))
+repeated-either true X Y = refl
+repeated-either false X Y = refl
+
+piece-step : (f : ℕ) (l : List ℕ) → pieceFrom (suc f) l ≡ repeated (atomFrom (suc f) l)
 piece-step f l =
     let X = patternFrom f (drop 1 l) in
     ap (λ (Y : Read). if eqb (peek l) (code "(") then Y else repeated (readLetter l)) (repeated-if (X .good && eqb (peek (X .rest)) (code ")")) (read (X .part) (drop 1 (X .rest))))
+    ∙ repeated-either (eqb (peek l) (code "(")) (closedRead X) (readLetter l)
 
-pub piece-letter : (s : List ℕ) (at n : ℕ) (m m′ : Memory) (r : Parsed) → (peek (drop at s) ≡ code "(" → ⊥) → Stands s at n m m′ (repeated (readLetter (drop at s))) r → Parses pieceFrom 0 s at n m m′ r
-piece-letter s at n m m′ r d w zero h = absurd (omega arith)
-piece-letter s at n m m′ r d w (suc f) h =
-    let l = drop at s in
-    stands-as s at n m m′ r (piece-step f l ∙ if-no (repeated (closedRead (patternFrom f (drop 1 l)))) (repeated (readLetter l)) (eqb (peek l) (code "(")) (ne-eqb (peek l) (code "(") d)) w
+module _ (s : List ℕ) (at n : ℕ) (m now : Memory) (a : Parsed) (d : Parses atomFrom 0 s at n m now a) where
+  pub piece-repeated : (now′ : Memory) (r : Parsed) → Changes repeated s n now now′ a r → Parses pieceFrom 0 s at n m now′ r
+  piece-repeated now′ r repeats zero h = absurd (omega arith)
+  piece-repeated now′ r repeats (suc f) h = stands-as s at n m now′ r (piece-step f (drop at s)) (repeats at m (atomFrom (suc f) (drop at s)) (d (suc f) h))
 
-module _ (s : List ℕ) (at n : ℕ) (m now : Memory) (i a : Parsed) (d : Parses patternFrom 2 s (at + 1) n m now i) (closes : Changes closedRead s n now now i a) where
-  pub piece-open : (now′ : Memory) (r : Parsed) → peek (drop at s) ≡ code "(" → Changes repeated s n now now′ a r → Parses pieceFrom 0 s at n m now′ r
-  piece-open now′ r e repeats zero h = absurd (omega arith)
-  piece-open now′ r e repeats (suc f) h =
-      let l = drop at s in
-      let X = patternFrom f (drop 1 l) in
-      let inside : at < length s = next-within s at (omega arith) in
-      let w : Stands s at n m now (patternFrom f (drop (at + 1) s)) i = stands-from s at (at + 1) n m now (patternFrom f (drop (at + 1) s)) i (omega arith) (d f (omega arith)) in
-      stands-as s at n m now′ r (piece-step f l ∙ if-yes (repeated (closedRead X)) (repeated (readLetter l)) (eqb (peek l) (code "(")) (eq-eqb (peek l) (code "(") e))
-      (repeats at m (closedRead X) (closes at m X (stands-as s at n m now i (ap (patternFrom f) (drop-drop 1 at s)) w)))
-
-  -- the pattern in brackets has the positions after n
-  pub closed-placed : n ≤ 61 → a .good ≡ true → Placed n a
-  closed-placed low g =
-      let f = suc (3 * (length s - (at + 1)) + 2) in
-      let X = patternFrom f (drop (at + 1) s) in
-      placed n m now (closedRead X .part) a low (closes (at + 1) m X (d f (lt-suc-self (3 * (length s - (at + 1)) + 2))) .gives g .has)
+  -- the atom has the positions after n
+  pub atom-placed : n ≤ 61 → a .good ≡ true → Placed n a
+  atom-placed low g = let f = suc (3 * (length s - at) + 0) in placed n m now (atomFrom f (drop at s) .part) a low (d f (lt-suc-self (3 * (length s - at) + 0)) .gives g .has)
 
 pub bar-within : (s : List ℕ) (g : Bool) (n : ℕ) → (g && barNext (drop n s)) ≡ true → n < length s
 bar-within s g n e = next-within s n (omega (arith, eqb-true (peek (drop n s)) (code "|") (and-parts g (barNext (drop n s)) e .1)))

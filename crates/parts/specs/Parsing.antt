@@ -2,18 +2,18 @@
 use mathlib.Core.Path.{_≡_}
 use mathlib.Core.Bool.{Bool, true, false}
 use mathlib.Core.List.{List}
-use Prim.Native.Nat.{ℕ, _+_, _-_, _*_, _<_, _≤_, min}
+use Prim.Native.Nat.{ℕ, zero, suc, _+_, _-_, _*_, _<_, _≤_, min}
 use Prim.Native.Char.{code}
 use lib.Dec.{eqb, ltb}
 use lib.ListN.{length, drop}
 use Rattle.basics.specs.Choice.{if_then_else_}
 use Rattle.pattern.specs.Parts.{Part}
-use Rattle.pattern.specs.Grammar.{Read, read, broken, peek, readPattern, patternPart}
+use Rattle.pattern.specs.Grammar.{Read, read, broken, peek, readLetter, patternFrom, readPattern, patternPart}
 use Rattle.pattern.specs.Refusals.{anyReversed, anyEmpty}
 use Rattle.links.specs.Rows.{kept, Marks, Links, number, after, NoneCounted}
 use Rattle.parsed.specs.declared.Parsed.{Parsed}
 use Rattle.parsed.specs.Tables.{Stored}
-use Rattle.parsed.specs.Parsed.{Shape, shapeOf, Memory, Stands}
+use Rattle.parsed.specs.Parsed.{Shape, shapeOf, Memory, Stands, closedRead}
 
 -- r stands for what the function F of the grammar reads from there on, at every depth above the measure by which the code ends:
 -- three for each byte left, and the rank
@@ -25,6 +25,11 @@ Parses F rank s at n m m′ r = (f : ℕ) → 3 * (length s - at) + rank < f →
 -- a part, and one read after it
 abbrev pub both : (Part → Part → Part) → Read → Read → Read
 both combine a b = if b .good then read (combine (a .part) (b .part)) (b .rest) else broken
+
+-- an atom: a pattern in `( )`, or a lettered one; a piece is an atom, repeated
+abbrev pub atomFrom : ℕ → List ℕ → Read
+atomFrom zero s = broken
+atomFrom (suc f) s = if eqb (peek s) (code "(") then closedRead (patternFrom f (drop 1 s)) else readLetter s
 
 -- does another branch follow
 abbrev pub barNext : List ℕ → Bool

@@ -8,11 +8,11 @@ ghost use mathlib.Core.Bool.{_&&_};
 ghost use mathlib.Core.List.{[]};
 ghost use Prim.Native.Nat.{_≤_};
 ghost use lib.ListN.{drop};
-ghost use Rattle.pattern.specs.Grammar.{goesOn, patternFrom, branchFrom, pieceFrom};
+ghost use Rattle.pattern.specs.Grammar.{goesOn, patternFrom, branchFrom};
 ghost use Rattle.links.specs.Rows.{NoneCounted, Room};
 ghost use Rattle.parsed.specs.Tables.{Sized, Stored};
 ghost use Rattle.parsed.specs.Parsed.{memory};
-ghost use Rattle.parts.specs.Parsing.{Parses, ParsesAll, barNext, Opens};
+ghost use Rattle.parts.specs.Parsing.{Parses, ParsesAll, atomFrom, barNext, Opens};
 
 // A part, and the rows with its links: row a has what may follow position a, and row 0 is not used.
 pub struct ParsedRows {
@@ -57,7 +57,7 @@ fn pattern(
     }
 }
 
-// One or more pieces. A lettered atom is read here, since it has no rows to give back but its own.
+// One or more pieces: an atom, and what repeats it. A lettered atom is read here, since it has no rows to give back.
 fn branch(
     s: &[u8],
     at: usize,
@@ -74,13 +74,14 @@ fn branch(
     let mut so_far = parsed::nothing(at, n, true);
     loop {
         let t = so_far.at;
-        let next = if places::byte_at(s, t) == b'(' {
+        let atom = if places::byte_at(s, t) == b'(' {
             let p = piece(s, t, so_far.n, all, sets, credits, more);
             all = p.rows;
             p.part
         } else {
-            repeats::lettered(s, t, so_far.n, &mut all, sets, credits, more)
+            parsed::letter(s, t, so_far.n, sets, credits)
         };
+        let next = repeats::repeat(s, so_far.n, atom, &mut all, sets, credits, more);
         so_far = parsed::join(&mut all, so_far, next);
         if !goes_on(s, so_far.good, so_far.at) {
             return ParsedRows {
@@ -91,7 +92,7 @@ fn branch(
     }
 }
 
-// A pattern in `( )`, with its repeat.
+// The atom of a piece that is a pattern in `( )`.
 fn piece(
     s: &[u8],
     at: usize,
@@ -102,12 +103,11 @@ fn piece(
     more: &mut [u8],
 ) -> ParsedRows
     requires { ⌜ (n ≤ 61) × Sized (now sets) (now credits) × Room (now more) × Opens (now s) at ⌝ }
-    ensures { λ r. ⌜ Parses pieceFrom 0 (now (s .entry)) at n (memory rows (now (more .entry)) (now (sets .entry)) (now (credits .entry))) (memory (r .rows) (now (more .exit)) (now (sets .exit)) (now (credits .exit))) (r .part) ⌝ }
+    ensures { λ r. ⌜ Parses atomFrom 0 (now (s .entry)) at n (memory rows (now (more .entry)) (now (sets .entry)) (now (credits .entry))) (memory (r .rows) (now (more .exit)) (now (sets .exit)) (now (credits .exit))) (r .part) ⌝ }
 {
     let mut p = pattern(s, at + 1, n, rows, sets, credits, more);
     let inner = p.part;
-    let atom = parsed::closed(s, inner);
-    p.part = repeats::repeat(s, n, atom, &mut p.rows, sets, credits, more);
+    p.part = parsed::closed(s, inner);
     p
 }
 

@@ -4,33 +4,14 @@ use bounds::IntervalRead;
 use parsed::Parsed;
 ghost use mathlib.Core.Path.{_≡_};
 ghost use mathlib.Core.Bool.{true};
-ghost use Prim.Native.Nat.{_≤_};
-ghost use lib.ListN.{length, drop};
-ghost use Rattle.pattern.specs.Grammar.{readLetter, repeated};
+ghost use lib.ListN.{length};
+ghost use Rattle.pattern.specs.Grammar.{repeated};
 ghost use Rattle.bounds.specs.Bounds.{boundsOf};
 ghost use Rattle.links.specs.Rows.{Room};
 ghost use Rattle.parsed.specs.Tables.{Sized};
-ghost use Rattle.parsed.specs.Parsed.{memory, Stands, Changes};
+ghost use Rattle.parsed.specs.Parsed.{memory, Changes};
 ghost use Rattle.chains.specs.Chains.{howMany};
 ghost use Rattle.repeats.specs.Repeats.{Placed, WritesOut};
-
-// A lettered atom with its repeat.
-pub fn lettered(
-    s: &[u8],
-    at: usize,
-    n: usize,
-    rows: &mut [u64; 61],
-    sets: &mut [u64],
-    credits: &mut [u8],
-    more: &mut [u8],
-) -> Parsed
-    requires { ⌜ (n ≤ 61) × Sized (now sets) (now credits) × (length (now rows) ≡ 61) × Room (now more) ⌝ }
-    ensures { λ r. ⌜ Stands (now (s .entry)) at n (memory (now (rows .entry)) (now (more .entry)) (now (sets .entry)) (now (credits .entry))) (memory (now (rows .exit)) (now (more .exit)) (now (sets .exit)) (now (credits .exit))) (repeated (readLetter (drop at (now (s .entry))))) r
-        × (length (now (rows .exit)) ≡ 61) ⌝ }
-{
-    let a = parsed::letter(s, at, n, sets, credits);
-    repeat(s, n, a, rows, sets, credits, more)
-}
 
 // What repeats an atom that has the positions after n, if anything does.
 pub fn repeat(

@@ -11,11 +11,10 @@ use lib.ListN.{length}
 use borrow.Author.Needs.{needs}
 use borrow.Author.Tests.{not-true, not-false}
 use Rattle.places.proofs.Places.{next-within}
-use Rattle.pattern.specs.Grammar.{pieceFrom}
 use Rattle.parsed.specs.Tables.{Sized}
 use Rattle.parsed.specs.Parsed.{Memory, memory}
-use Rattle.parts.specs.Parsing.{Parses}
-use Rattle.parts.proofs.Parsing.{parses-as, piece-letter, piece-open, closed-placed, bar-within}
+use Rattle.parts.specs.Parsing.{Parses, atomFrom}
+use Rattle.parts.proofs.Parsing.{parses-as, atom-letter, atom-open, piece-repeated, atom-placed, bar-within}
 use Rattle.parts.proofs.Folding.{pieces, branches, Sofar, begins, ends, goes-on}
 use borrow.Fn.Kinds.{In}
 use borrow.Fn.PlainCycle.{Measures, is, falls, and}
@@ -34,7 +33,7 @@ use Rattle.parsed.proofs.either.Reads as either-reads
 use Rattle.parts.proofs.goes_on.Reads as goes-on-reads
 use Rattle.parts.proofs.is_bar.Reads as is-bar-reads
 use Rattle.parsed.proofs.join.Reads as join-reads
-use Rattle.repeats.proofs.lettered.Reads as lettered-reads
+use Rattle.parsed.proofs.letter.Reads as letter-reads
 use Rattle.parsed.proofs.nothing.Reads as nothing-reads
 use Rattle.repeats.proofs.repeat.Reads as repeat-reads
 use Rattle.parts.proofs.+branch+pattern+piece.{statement}
@@ -74,15 +73,15 @@ abbrev branch-μ-loop : branch-lts.MeasureT-loop
 branch-μ-loop s at n sets₀ credits₀ more₀ all₀ so-far₀ sets credits more all so-far = length s - so-far .at
 
 abbrev branch-env : ℕ → branch-lts.Claims
-branch-env t = (nothing-reads.Asked, nothing-reads.Learnt, byte-at-reads.Asked, byte-at-reads.Learnt, piece-below t, piece.Post, lettered-reads.Asked, lettered-reads.Learnt, join-reads.Asked, join-reads.Learnt, goes-on-reads.Asked, goes-on-reads.Learnt)
+branch-env t = (nothing-reads.Asked, nothing-reads.Learnt, byte-at-reads.Asked, byte-at-reads.Learnt, piece-below t, piece.Post, letter-reads.Asked, letter-reads.Learnt, repeat-reads.Asked, repeat-reads.Learnt, join-reads.Asked, join-reads.Learnt, goes-on-reads.Asked, goes-on-reads.Learnt)
 
 abbrev pattern-env : ℕ → pattern-lts.Claims
 pattern-env t = (nothing-reads.Asked, nothing-reads.Learnt, branch-below t, branch.Post, either-reads.Asked, either-reads.Learnt, is-bar-reads.Asked, is-bar-reads.Learnt)
 
 abbrev piece-env : ℕ → piece-lts.Claims
-piece-env t = (pattern-below t, pattern.Post, closed-reads.Asked, closed-reads.Learnt, repeat-reads.Asked, repeat-reads.Learnt)
+piece-env t = (pattern-below t, pattern.Post, closed-reads.Asked, closed-reads.Learnt)
 
--- ---- a branch: what comes next is a piece, a pattern in `( )` or a lettered atom
+-- ---- a branch: what comes next is an atom, a pattern in `( )` or a lettered one
 
 module _ (t : ℕ) (c : branch-lts.Joined1 (branch-env t) (branch-at t) branch.Post branch-Inv-loop branch-μ-loop) where
   abbrev loop-of : branch-lts.At-loop·own (branch-env t) (branch-at t) branch.Post branch-Inv-loop branch-μ-loop (c .before .before .before)
@@ -94,28 +93,28 @@ module _ (t : ℕ) (c : branch-lts.Joined1 (branch-env t) (branch-at t) branch.P
   abbrev then : Memory
   then = memory (loop-of .all) (loop-of .more) (loop-of .sets) (loop-of .credits)
 
-  next-parses : Parses pieceFrom 0 text (loop-of .so-far .at) (loop-of .so-far .n) then (memory (c .if1 .all) (c .if1 .more) (c .if1 .sets) (c .if1 .credits)) (c .if1 .next)
-  next-parses =
+  atom-parses : Parses atomFrom 0 text (loop-of .so-far .at) (loop-of .so-far .n) then (memory (c .if1 .all) (c .if1 .more) (c .if1 .sets) (c .if1 .credits)) (c .if1 .atom)
+  atom-parses =
       ⊎-elim
-      (λ w. parses-as pieceFrom 0 text (loop-of .so-far .at) (loop-of .so-far .n) then (w .16) (w .15) (w .13) (w .14) (w .17) (w .4 .ensures))
-      (λ w. parses-as pieceFrom 0 text (loop-of .so-far .at) (loop-of .so-far .n) then (w .15) (w .14) (w .12) (w .13) (w .16)
-      (piece-letter text (loop-of .so-far .at) (loop-of .so-far .n) then _ _ (λ e. w .0 .left (c .before .byte-at .ensures ∙ e)) (w .5 .ensures .0)))
+      (λ w. parses-as atomFrom 0 text (loop-of .so-far .at) (loop-of .so-far .n) then (w .16) (w .15) (w .13) (w .14) (w .17) (w .4 .ensures))
+      (λ w. parses-as atomFrom 0 text (loop-of .so-far .at) (loop-of .so-far .n) then (w .11) (w .10) (w .8) (w .9) (w .12)
+      (atom-letter text (loop-of .so-far .at) (loop-of .so-far .n) then _ _ (λ e. w .0 .left (c .before .byte-at .ensures ∙ e)) (w .3 .ensures (loop-of .all) (loop-of .more))))
       (c .if1 .came)
 
-  next-rows : length (c .if1 .all) ≡ 61
-  next-rows =
-      ⊎-elim (λ w. let l : length (w .4 .result .rows) ≡ 61 = search needs in ap length (w .16) ∙ l) (λ w. ap length (w .15) ∙ w .5 .ensures .1) (c .if1 .came)
+  atom-rows : length (c .if1 .all) ≡ 61
+  atom-rows =
+      ⊎-elim (λ w. let l : length (w .4 .result .rows) ≡ 61 = search needs in ap length (w .16) ∙ l) (λ w. ap length (w .11) ∙ loop-of .inv .0) (c .if1 .came)
 
-  next-sized : Sized (c .if1 .sets) (c .if1 .credits)
-  next-sized =
+  atom-sized : Sized (c .if1 .sets) (c .if1 .credits)
+  atom-sized =
       ⊎-elim
       (λ w. record { sets-are = ap length (w .13) ∙ w .4 .kept .1 .1 .1 .1 .0 ∙ loop-of .inv .1 .sets-are; credits-are = ap length (w .14) ∙ w .4 .kept .1 .1 .1 .1 .1 .0 ∙ loop-of .inv .1 .credits-are })
-      (λ w. record { sets-are = ap length (w .12) ∙ w .5 .kept .1 .1 .1 .1 .0 ∙ loop-of .inv .1 .sets-are; credits-are = ap length (w .13) ∙ w .5 .kept .1 .1 .1 .1 .1 .0 ∙ loop-of .inv .1 .credits-are })
+      (λ w. record { sets-are = ap length (w .8) ∙ w .3 .kept .1 .1 .1 .0 ∙ loop-of .inv .1 .sets-are; credits-are = ap length (w .9) ∙ w .3 .kept .1 .1 .1 .1 .0 ∙ loop-of .inv .1 .credits-are })
       (c .if1 .came)
 
-  next-more : length (c .if1 .more) ≡ length (c .before .before .before .before .before .before .before .before .args .more .now)
-  next-more =
-      ⊎-elim (λ w. ap length (w .15) ∙ w .4 .kept .1 .1 .1 .1 .1 .1 .0 ∙ loop-of .inv .3) (λ w. ap length (w .14) ∙ w .5 .kept .1 .1 .1 .1 .1 .1 .0 ∙ loop-of .inv .3) (c .if1 .came)
+  atom-more : length (c .if1 .more) ≡ length (c .before .before .before .before .before .before .before .before .args .more .now)
+  atom-more =
+      ⊎-elim (λ w. ap length (w .15) ∙ w .4 .kept .1 .1 .1 .1 .1 .1 .0 ∙ loop-of .inv .3) (λ w. ap length (w .10) ∙ loop-of .inv .3) (c .if1 .came)
 
 branch-nothing-requires : (t : ℕ) → branch-lts.Need-nothing-requires (branch-env t) (branch-at t) branch.Post branch-Inv-loop branch-μ-loop
 branch-nothing-requires t c κs = search needs
@@ -132,37 +131,42 @@ branch-piece-requires t c κs =
     let on = loop .inv .2 .on in
     (omega arith, (loop .inv .2 .few, loop .inv .1, loop .inv .3 ∙ c .before .before .before .before .before .before .before .before .before .before .before .pre .1 .2, sym (c .before .before .before .before .byte-at .ensures) ∙ c .before .before .before .if1 .taken))
 
-branch-lettered-requires : (t : ℕ) → branch-lts.Need-lettered-requires (branch-env t) (branch-at t) branch.Post branch-Inv-loop branch-μ-loop
-branch-lettered-requires t c κs = let loop = c .before .before .before .before .before .before .loop in (loop .inv .2 .few, loop .inv .1, loop .inv .0, loop .inv .3 ∙ c .before .before .before .before .before .before .before .before .before .before .before .before .pre .1 .2)
+branch-letter-requires : (t : ℕ) → branch-lts.Need-letter-requires (branch-env t) (branch-at t) branch.Post branch-Inv-loop branch-μ-loop
+branch-letter-requires t c κs = let loop = c .before .before .before .before .loop in (loop .inv .2 .few, loop .inv .1)
+
+branch-repeat-requires : (t : ℕ) → branch-lts.Need-repeat-requires (branch-env t) (branch-at t) branch.Post branch-Inv-loop branch-μ-loop
+branch-repeat-requires t c κs =
+    let is = c .before .before .before .before in
+    (atom-placed _ _ _ _ _ _ (atom-parses t is) (c .before .before .before .before .before .before .loop .inv .2 .few), atom-sized t is, atom-rows t is, atom-more t is ∙ c .before .before .before .before .before .before .before .before .before .before .before .before .pre .1 .2)
 
 branch-join-requires : (t : ℕ) → branch-lts.Need-join-requires (branch-env t) (branch-at t) branch.Post branch-Inv-loop branch-μ-loop
-branch-join-requires t c κs = next-rows t (c .before)
+branch-join-requires t c κs = c .before .before .before .before .before .before .before .repeat .ensures .1
 
 branch-goes-on-requires : (t : ℕ) → branch-lts.Need-goes-on-requires (branch-env t) (branch-at t) branch.Post branch-Inv-loop branch-μ-loop
 branch-goes-on-requires t c κs = search needs
 
 branch-same-length : (t : ℕ) → branch-lts.Need-same-length (branch-env t) (branch-at t) branch.Post branch-Inv-loop branch-μ-loop
-branch-same-length t c = next-sized t (c .before .before .before .before) .sets-are ∙ sym (c .before .before .before .before .before .before .before .before .before .before .before .before .pre .1 .1 .sets-are)
+branch-same-length t c = c .before .before .before .before .before .before .before .before .before .before .repeat .kept .1 .1 .1 .1 .0 ∙ atom-sized t (c .before .before .before .before .before .before .before .before .before .before .before .before .before .before .before) .sets-are ∙ sym (c .before .before .before .before .before .before .before .before .before .before .before .before .before .before .before .before .before .before .before .before .before .before .before .pre .1 .1 .sets-are)
 
 branch-same-length-2 : (t : ℕ) → branch-lts.Need-same-length-2 (branch-env t) (branch-at t) branch.Post branch-Inv-loop branch-μ-loop
-branch-same-length-2 t c = next-sized t (c .before .before .before .before) .credits-are ∙ sym (c .before .before .before .before .before .before .before .before .before .before .before .before .pre .1 .1 .credits-are)
+branch-same-length-2 t c = c .before .before .before .before .before .before .before .before .before .before .repeat .kept .1 .1 .1 .1 .1 .0 ∙ atom-sized t (c .before .before .before .before .before .before .before .before .before .before .before .before .before .before .before) .credits-are ∙ sym (c .before .before .before .before .before .before .before .before .before .before .before .before .before .before .before .before .before .before .before .before .before .before .before .pre .1 .1 .credits-are)
 
 branch-same-length-3 : (t : ℕ) → branch-lts.Need-same-length-3 (branch-env t) (branch-at t) branch.Post branch-Inv-loop branch-μ-loop
-branch-same-length-3 t c = next-more t (c .before .before .before .before)
+branch-same-length-3 t c = c .before .before .before .before .before .before .before .before .before .before .repeat .kept .1 .1 .1 .1 .1 .1 .0 ∙ atom-more t (c .before .before .before .before .before .before .before .before .before .before .before .before .before .before .before)
 
 branch-returns : (t : ℕ) → branch-lts.Need-returns (branch-env t) (branch-at t) branch.Post branch-Inv-loop branch-μ-loop
 branch-returns t c =
-    ends pieces _ _ _ _ _ _ _ _ _ _ (c .before .before .before .before .before .before .loop .inv .2) (next-parses t (c .before .before .before .before)) (c .before .before .join .ensures .0, refl) (sym (c .before .goes-on .ensures) ∙ not-true (c .before .goes-on .result) (c .if2 .taken))
+    ends pieces _ _ _ _ _ _ _ _ _ _ (c .before .before .before .before .before .before .before .before .before .before .before .before .before .before .before .before .before .loop .inv .2) (piece-repeated _ _ _ _ _ _ (atom-parses t (c .before .before .before .before .before .before .before .before .before .before .before .before .before .before .before)) _ _ (c .before .before .before .before .before .before .before .before .before .before .repeat .ensures .0)) (c .before .before .join .ensures .0, refl) (sym (c .before .goes-on .ensures) ∙ not-true (c .before .goes-on .result) (c .if2 .taken))
 
 branch-loop-less : (t : ℕ) → branch-lts.Need-loop-less (branch-env t) (branch-at t) branch.Post branch-Inv-loop branch-μ-loop
 branch-loop-less t c =
-    let goes = goes-on pieces _ _ _ _ _ _ _ _ _ _ (c .before .before .before .before .before .before .loop .inv .2) (next-parses t (c .before .before .before .before)) (c .before .before .join .ensures .0, refl) (c .before .before .join .result .at) (sym (add-zero (c .before .before .join .result .at))) (sym (c .before .goes-on .ensures) ∙ not-false (c .before .goes-on .result) (c .if2 .left)) in
+    let goes = goes-on pieces _ _ _ _ _ _ _ _ _ _ (c .before .before .before .before .before .before .before .before .before .before .before .before .before .before .before .before .before .loop .inv .2) (piece-repeated _ _ _ _ _ _ (atom-parses t (c .before .before .before .before .before .before .before .before .before .before .before .before .before .before .before)) _ _ (c .before .before .before .before .before .before .before .before .before .before .repeat .ensures .0)) (c .before .before .join .ensures .0, refl) (c .before .before .join .result .at) (sym (add-zero (c .before .before .join .result .at))) (sym (c .before .goes-on .ensures) ∙ not-false (c .before .goes-on .result) (c .if2 .left)) in
     omega (arith, goes .1, goes .2)
 
 branch-loop-again : (t : ℕ) → branch-lts.Need-loop-again (branch-env t) (branch-at t) branch.Post branch-Inv-loop branch-μ-loop
 branch-loop-again t c =
-    let goes = goes-on pieces _ _ _ _ _ _ _ _ _ _ (c .before .before .before .before .before .before .loop .inv .2) (next-parses t (c .before .before .before .before)) (c .before .before .join .ensures .0, refl) (c .before .before .join .result .at) (sym (add-zero (c .before .before .join .result .at))) (sym (c .before .goes-on .ensures) ∙ not-false (c .before .goes-on .result) (c .if2 .left)) in
-    (c .before .before .join .ensures .1, next-sized t (c .before .before .before .before), goes .0, next-more t (c .before .before .before .before))
+    let goes = goes-on pieces _ _ _ _ _ _ _ _ _ _ (c .before .before .before .before .before .before .before .before .before .before .before .before .before .before .before .before .before .loop .inv .2) (piece-repeated _ _ _ _ _ _ (atom-parses t (c .before .before .before .before .before .before .before .before .before .before .before .before .before .before .before)) _ _ (c .before .before .before .before .before .before .before .before .before .before .repeat .ensures .0)) (c .before .before .join .ensures .0, refl) (c .before .before .join .result .at) (sym (add-zero (c .before .before .join .result .at))) (sym (c .before .goes-on .ensures) ∙ not-false (c .before .goes-on .result) (c .if2 .left)) in
+    (c .before .before .join .ensures .1, record { sets-are = c .before .before .before .before .before .before .before .before .before .before .repeat .kept .1 .1 .1 .1 .0 ∙ atom-sized t (c .before .before .before .before .before .before .before .before .before .before .before .before .before .before .before) .sets-are; credits-are = c .before .before .before .before .before .before .before .before .before .before .repeat .kept .1 .1 .1 .1 .1 .0 ∙ atom-sized t (c .before .before .before .before .before .before .before .before .before .before .before .before .before .before .before) .credits-are }, goes .0, c .before .before .before .before .before .before .before .before .before .before .repeat .kept .1 .1 .1 .1 .1 .1 .0 ∙ atom-more t (c .before .before .before .before .before .before .before .before .before .before .before .before .before .before .before))
 
 abbrev pattern-Inv-loop : pattern-lts.InvT-loop
 pattern-Inv-loop s at n sets₀ credits₀ more₀ all₀ so-far₀ sets credits more all so-far = (length all ≡ 61) × Sized sets credits × Sofar branches s at n (memory all₀ more₀ sets₀ credits₀) (memory all more sets credits) so-far × (length more ≡ length more₀)
@@ -242,16 +246,6 @@ piece-pattern-requires t c κs =
 piece-closed-requires : (t : ℕ) → piece-lts.Need-closed-requires (piece-env t) (piece-at t) piece.Post
 piece-closed-requires t c κs = search needs
 
-piece-repeat-requires : (t : ℕ) → piece-lts.Need-repeat-requires (piece-env t) (piece-at t) piece.Post
-piece-repeat-requires t c κs =
-    let start = c .before .before .before .before .before .before .before .before .before .before .before .before .before .before .before .before .before .before .before .before in
-    let p = c .before .before .before .before .before .before .before .before .before .before .before .before .pattern in (
-      closed-placed _ _ _ _ _ _ _ (p .ensures) (c .before .before .before .before .closed .ensures _ _) (start .pre .1 .0),
-      record { sets-are = p .kept .1 .1 .1 .1 .0 ∙ start .pre .1 .1 .sets-are; credits-are = p .kept .1 .1 .1 .1 .1 .0 ∙ start .pre .1 .1 .credits-are },
-      search needs,
-      p .kept .1 .1 .1 .1 .1 .1 .0 ∙ start .pre .1 .2,
-    )
-
 piece-same-length : (t : ℕ) → piece-lts.Need-same-length (piece-env t) (piece-at t) piece.Post
 piece-same-length t c = search needs
 
@@ -262,7 +256,7 @@ piece-same-length-3 : (t : ℕ) → piece-lts.Need-same-length-3 (piece-env t) (
 piece-same-length-3 t c = search needs
 
 piece-returns : (t : ℕ) → piece-lts.Need-returns (piece-env t) (piece-at t) piece.Post
-piece-returns t c = piece-open _ _ _ _ _ _ _ (c .before .before .before .before .before .before .before .before .before .before .before .before .before .before .before .before .before .before .before .pattern .ensures) (c .before .before .before .before .before .before .before .before .before .before .before .closed .ensures _ _) _ _ (c .before .before .before .before .before .before .before .before .before .before .before .before .before .before .before .before .before .before .before .before .before .before .before .before .before .before .before .pre .1 .3) (c .before .before .before .before .before .before .repeat .ensures .0)
+piece-returns t c = atom-open _ _ _ _ _ _ _ (c .before .before .before .before .before .before .before .before .before .before .before .before .before .before .before .before .pre .1 .3) (c .before .before .before .before .before .before .before .before .pattern .ensures) (c .closed .ensures _ _)
 
 pub +branch+pattern+piece-spec : {M : Type 1} → statement M
 +branch+pattern+piece-spec = close μ-branch μ-pattern μ-piece (λ t. branch-lts.spec (branch-env t)
@@ -274,7 +268,8 @@ pub +branch+pattern+piece-spec : {M : Type 1} → statement M
     (branch-loop-holds t)
     (branch-byte-at-requires t)
     (branch-piece-requires t)
-    (branch-lettered-requires t)
+    (branch-letter-requires t)
+    (branch-repeat-requires t)
     (branch-join-requires t)
     (branch-goes-on-requires t)
     (branch-same-length t)
@@ -306,7 +301,6 @@ pub +branch+pattern+piece-spec : {M : Type 1} → statement M
     (piece-add-pattern t)
     (piece-pattern-requires t)
     (piece-closed-requires t)
-    (piece-repeat-requires t)
     (piece-same-length t)
     (piece-same-length-2 t)
     (piece-same-length-3 t)
