@@ -5,7 +5,7 @@ ghost use mathlib.Core.Path.{_≡_};
 ghost use Prim.Native.Nat.{_+_, _-_, _*_, _<_, _≤_};
 ghost use lib.ListN.{length};
 ghost use Rattle.links.specs.Rows.{Room};
-ghost use Rattle.chains.specs.Chains.{NextCopy, Chains};
+ghost use Rattle.chains.specs.Chains.{NextRows, Copied, NextPart, Chains};
 
 // A part, and copies of it after it, each joined to those before. It may end with each copy from the lower bound on; where it is
 // endless the last copy may go round.
@@ -21,12 +21,13 @@ pub fn chain(
     requires { ⌜ (0 < w) × (w ≤ p .n) × (0 < copies) × (p .n + (copies - 1) * w ≤ 60) × (length (now rows) ≡ 61) × Room (now more) ⌝ }
     ensures { λ r. ⌜ Chains w copies lower endless (now (rows .entry)) (now (more .entry)) (now (rows .exit)) (now (more .exit)) p r × (length (now (rows .exit)) ≡ 61) ⌝ }
 {
+    copy(p.n, p.doubled, w, copies, rows, more);
     let mut all = p;
     let mut one = p;
     let mut ends = p.lasts;
     let mut i = 1;
     while i < copies {
-        one = next_copy(one, w, rows, more);
+        one = next(one, w);
         all = parsed::join(rows, all, one);
         ends = links::union_if(lower <= i, all.lasts, ends);
         i += 1;
@@ -39,19 +40,39 @@ pub fn chain(
     all
 }
 
-// One more copy of a part that has the last w positions so far: with positions, rows and numbers of links of its own.
-fn next_copy(p: Parsed, w: usize, rows: &mut [u64; 61], more: &mut [u8]) -> Parsed
-    requires { ⌜ (0 < w) × (w ≤ p .n) × (p .n + w ≤ 60) × (length (now rows) ≡ 61) × Room (now more) ⌝ }
-    ensures { λ r. ⌜ NextCopy w (now (rows .entry)) (now (more .entry)) (now (rows .exit)) (now (more .exit)) p r × (length (now (rows .exit)) ≡ 61) ⌝ }
+// The rows of all copies of a part, side by side, and their numbers of links. The part has w positions, up to n.
+fn copy(n: usize, doubled: bool, w: usize, copies: usize, rows: &mut [u64; 61], more: &mut [u8])
+    requires { ⌜ (0 < w) × (w ≤ n) × (0 < copies) × (n + (copies - 1) * w ≤ 60) × (length (now rows) ≡ 61) × Room (now more) ⌝ }
+    ensures { λ _. ⌜ Copied w doubled n (copies - 1) (now (rows .entry)) (now (more .entry)) (now (rows .exit)) (now (more .exit)) × (length (now (rows .exit)) ≡ 61) ⌝ }
 {
-    let n = p.n;
+    let mut last = n;
+    let mut made = 1;
+    while made < copies {
+        next_rows(last, doubled, w, rows, more);
+        last += w;
+        made += 1;
+    }
+}
+
+// Those of one copy more, after one that has w positions, up to n.
+fn next_rows(n: usize, doubled: bool, w: usize, rows: &mut [u64; 61], more: &mut [u8])
+    requires { ⌜ (0 < w) × (w ≤ n) × (n + w ≤ 60) × (length (now rows) ≡ 61) × Room (now more) ⌝ }
+    ensures { λ _. ⌜ NextRows w doubled n (now (rows .entry)) (now (more .entry)) (now (rows .exit)) (now (more .exit)) × (length (now (rows .exit)) ≡ 61) ⌝ }
+{
     let from = n - w + 1;
     copies::rows(rows, from, n + 1, w);
-    if p.doubled {
+    if doubled {
         copies::bytes(more, 62 * from, 62 * n + 1, 62 * w);
     }
+}
+
+// The next copy of a part of w positions.
+fn next(p: Parsed, w: usize) -> Parsed
+    requires { ⌜ p .n + w ≤ 60 ⌝ }
+    ensures { λ r. ⌜ NextPart w p r ⌝ }
+{
     let mut out = p;
-    out.n = n + w;
+    out.n = p.n + w;
     out.firsts = bits::moved(p.firsts, w);
     out.lasts = bits::moved(p.lasts, w);
     out
