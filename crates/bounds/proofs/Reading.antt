@@ -17,7 +17,7 @@ use Rattle.pattern.specs.Parts.{Bounds, between, atLeast}
 use Rattle.pattern.specs.Grammar.{peek, Bound, bound, isDigit, digitMore, readBound, Interval, interval, noInterval, readInterval}
 use Rattle.bounds.specs.declared.BoundRead.{BoundRead}
 use Rattle.bounds.specs.declared.IntervalRead.{IntervalRead}
-use Rattle.bounds.specs.Bounds.{boundsOf, upTo, boundOf, ReadsMore, ReadsBound, ReadsInterval}
+use Rattle.bounds.specs.Bounds.{upTo, boundOf, ReadsMore, ReadsBound, ReadsInterval}
 
 -- ---- a bound
 

@@ -1,18 +1,18 @@
 -- A copy of a part in the rows and in the table. The idea: the rows past n have the part's links and no other, so that the rows w further
 -- on have the part's links with w positions more to its left. Assumes nothing.
-use mathlib.Core.Path.{_≡_, refl, sym, ap, ap₂, _∙_, subst}
+use mathlib.Core.Path.{_≡_, sym, ap, ap₂, _∙_}
 use mathlib.Core.Logic.{⊎-elim}
 use mathlib.Core.Bool.{Bool, true, false, _&&_, _||_, and-false, or-false}
 use mathlib.Core.List.{List}
-use Prim.Native.Nat.{ℕ, zero, suc, _+_, _-_, _*_, _≤_, _<_}
+use Prim.Native.Nat.{ℕ, _+_, _-_, _*_, _≤_, _<_}
 use native.Mathlib.Omega.{arith}
 use borrow.Author.Tests.{ltb-true, lt-ltb, leb-true, le-leb}
 use lib.Dec.{ltb, leb}
-use lib.ListN.{length, getD}
+use lib.ListN.{getD}
 use Rattle.basics.specs.Choice.{if_then_else_}
 use Rattle.basics.proofs.Tests.{and-parts, and-of, same-test, by-test, le-or-lt}
 use Rattle.bits.specs.Bits.{hasBit}
-use Rattle.copies.specs.Copies.{Same, Moved, Repeats}
+use Rattle.copies.specs.Copies.{Moved}
 use Rattle.pattern.specs.Parts.{Part}
 use Rattle.pattern.specs.Positions.{positions, links}
 use Rattle.pattern.proofs.Moved.{links-moved}

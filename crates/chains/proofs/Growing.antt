@@ -12,7 +12,7 @@ use lib.ListN.{length, length-append}
 use Rattle.basics.specs.Choice.{if_then_else_}
 use Rattle.basics.proofs.Tests.{and-parts, or-parts, by-test, if-no, le-or-lt}
 use Rattle.bits.specs.Bits.{hasBit}
-use Rattle.pattern.specs.Parts.{Part, Bounds, outOfBounds, writtenOut}
+use Rattle.pattern.specs.Parts.{Part}
 use Rattle.pattern.specs.Positions.{positions, canBeEmpty, isFirst, isLast, links}
 use Rattle.pattern.proofs.Moved.{first-moved, last-moved}
 use Rattle.links.specs.Rows.{kept, Marks, Adds, number, after, Counts, Clear, LinksMore}
@@ -22,7 +22,7 @@ use Rattle.parsed.specs.declared.Parsed.{Parsed}
 use Rattle.parsed.specs.Parsed.{Shape, shapeOf, Memory, memory, Keeps, Follows, Joins}
 use Rattle.parsed.proofs.Shapes.{eitherShape, Owns, owns-part, owns-either}
 use Rattle.parsed.proofs.Joining.{none, clear-on, keeps-linked}
-use Rattle.chains.specs.Chains.{howMany, NextRows, Copied, none as no-copy, after as one-copy, NextPart, Chains}
+use Rattle.chains.specs.Chains.{NextRows, Copied, none as no-copy, after as one-copy, NextPart, Chains}
 use Rattle.chains.proofs.Chains.{chain, owns-chain, chain-length, ends, interval, written}
 use Rattle.chains.proofs.Copying.{Fresh, fresh, marks-moved, copy-adds, copy-counts}
 

@@ -1,6 +1,6 @@
 -- A stretch that is copied on, entry by entry: a store past all that was looked at so far changes none of it. One law for every
 -- kind of copy. Assumes nothing.
-use mathlib.Core.Path.{_≡_, refl, sym, ap, _∙_, subst}
+use mathlib.Core.Path.{_≡_, refl, sym, _∙_, subst}
 use mathlib.Core.List.{List}
 use Prim.Native.Nat.{ℕ, _+_, _≤_, _<_}
 use native.Mathlib.Omega.{arith}

@@ -298,7 +298,7 @@ right r =
     let g = graphOf (patternPart p) in
     let a = r .answer in
     eqb (patternRefusal p) (r .refusal)
-    && (if eqb (patternRefusal p) 0 then eqb (readings g a) (r .count) && isNumber (mark g a) (r .credit) else true)
+    && (if eqb (r .refusal) 0 then eqb (readings g a) (r .count) && isNumber (mark g a) (r .credit) else true)
 
 abbrev allRight : List Row → Bool
 allRight [] = true

@@ -1,16 +1,15 @@
 -- An interval that was read after an atom: written out, it has the atom's copies. Where there is no room for them nothing is kept but
 -- that; where refusal 11 names it, the atom stays as it is. Assumes nothing.
-use mathlib.Core.Path.{_≡_, refl, sym, ap, ap₂, _∙_, subst}
+use mathlib.Core.Path.{_≡_, refl, sym, ap, _∙_, subst}
 use mathlib.Core.Bool.{Bool, true, false, _||_, not, or-self}
 use mathlib.Core.List.{List, [], _∷_, _++_, append-assoc}
 use mathlib.Core.Logic.{⊎-elim}
-use Prim.Native.Nat.{ℕ, zero, suc, _+_, _-_, _*_, _≤_, _<_, min, max}
+use Prim.Native.Nat.{ℕ, zero, suc, _+_, _-_, _*_, _≤_, _<_, max}
 use native.Mathlib.Nat.{add-zero, suc-mul}
 use native.Mathlib.Omega.{arith}
 use borrow.Author.Tests.{ltb-true, ltb-false}
 use lib.Dec.{ltb}
 use lib.ListN.{length, drop}
-use Rattle.basics.specs.Choice.{if_then_else_}
 use Rattle.basics.proofs.Tests.{by-test, or-parts, or-cases, if-yes, if-no, le-or-lt}
 use Rattle.alphabet.specs.Alphabet.{someLetter}
 use Rattle.copies.specs.Copies as Copies
@@ -28,7 +27,7 @@ use Rattle.parsed.specs.declared.Parsed.{Parsed}
 use Rattle.parsed.specs.Tables.{Stored}
 use Rattle.parsed.specs.Parsed.{Shape, shapeOf, Memory, memory, Keeps, Has, Stands}
 use Rattle.parsed.proofs.Shapes.{owns-part}
-use Rattle.parsed.proofs.Joining.{any-both, keeps-as}
+use Rattle.parsed.proofs.Joining.{any-both}
 use Rattle.parsed.proofs.Standing.{stands-as, stands-not}
 use Rattle.chains.specs.Chains.{howMany, Chains}
 use Rattle.chains.proofs.Chains.{chain, chain-length, interval, written}

@@ -1,9 +1,7 @@
 -- The entries up to i have their copies. The measure is how many are left. Assumes nothing.
-use mathlib.Core.Path.{_≡_, refl, _∙_, subst}
-use mathlib.Core.List.{List}
+use mathlib.Core.Path.{_≡_, subst}
 use Prim.Native.Nat.{ℕ, _-_, _≤_}
 use native.Mathlib.Omega.{arith}
-use borrow.Author.Needs.{needs}
 use Rattle.copies.specs.Copies.{Repeats, Moved}
 use Rattle.copies.proofs.Copying.{repeats-none, repeats-more}
 use Rattle.copies.proofs.rows.Statement.{statement}
