@@ -15,7 +15,7 @@ pub record Placed (n : ℕ) (p : Parsed) : Type 0 where
   pub cut : p .n ≤ 61
   pub some : p .n ≤ 60 → n < p .n
 
--- whatever p stands for, and whatever interval i stands for in the byte after it, r stands for both
+-- whatever p stands for, and whatever interval i stands for, read from the byte after its `{` on, r stands for the one with the other
 abbrev pub WritesOut : ℕ → IntervalRead → Memory → Memory → Parsed → Parsed → Type 0
 WritesOut n i now now′ p r =
     (s : List ℕ) (at : ℕ) (m : Memory) (R : Read) (I : Interval) → p .good ≡ true → Stands s at n m now R p → ReadsInterval s (p .at + 1) I i
