@@ -12,7 +12,7 @@ use lib.ListN.{getD}
 use borrow.Author.Tests.{eq-eqb, ne-eqb, eqb-true}
 use Rattle.basics.specs.Choice.{if_then_else_}
 use Rattle.basics.specs.Folds.{foldIf, sumIf, anyIf, listIf, mostIf, Less, LeastOf}
-use Rattle.basics.proofs.Tests.{by-test, by-equal, if-yes, if-no, if-either, or-left, or-right, or-cases, and-parts, and-of, same-test}
+use Rattle.basics.proofs.Tests.{by-test, by-equal, if-yes, if-no, if-either, le-or-lt, or-left, or-right, or-cases, and-parts, and-of, same-test}
 
 pub less-here : (p q : ℕ → Bool) (t : ℕ) → Less p t q → q t ≡ false
 less-here p q t e = e t ∙ ap (λ (b : Bool). p t && not b) (eq-eqb t t refl) ∙ and-false (p t)
@@ -121,11 +121,28 @@ least p (suc n) =
     (λ e. inl (λ i l. by-equal i n (λ z. ap p z ∙ e) (λ d. none i (omega arith)))))
     (λ r. inr (r .0, (let l = r .1 in omega arith), r .2)) (least p n)
 
-pub list-first : (p : ℕ → Bool) (n t : ℕ) → t < n → LeastOf p t → getD (listIf p n) 0 0 ≡ t
-list-first p n t l h = ap (λ (xs : List ℕ). getD xs 0 0) (list-least p (λ j. p j && not (eqb t j)) t (λ j. refl) (h .here) (h .none) n l)
+pub list-first : (p : ℕ → Bool) (n d t : ℕ) → t < n → LeastOf p t → getD (listIf p n) 0 d ≡ t
+list-first p n d t l h = ap (λ (xs : List ℕ). getD xs 0 d) (list-least p (λ j. p j && not (eqb t j)) t (λ j. refl) (h .here) (h .none) n l)
 
-pub list-none : (p : ℕ → Bool) (n : ℕ) → ((i : ℕ) → i < n → p i ≡ false) → getD (listIf p n) 0 0 ≡ 0
-list-none p n h = ap (λ (xs : List ℕ). getD xs 0 0) (fold-none [] _++_ p (λ i. i ∷ []) n h)
+pub list-none : (p : ℕ → Bool) (n d : ℕ) → ((i : ℕ) → i < n → p i ≡ false) → getD (listIf p n) 0 d ≡ d
+list-none p n d h = ap (λ (xs : List ℕ). getD xs 0 d) (fold-none [] _++_ p (λ i. i ∷ []) n h)
+
+-- n is the least number below m that passes p, or m where none does: the first of the list, with m past its end
+pub record FirstBelow (p : ℕ → Bool) (m n : ℕ) : Type 0 where
+  pub within : n ≤ m
+  pub here : n < m → p n ≡ true
+  pub none : (j : ℕ) → j < n → p j ≡ false
+
+pub first-is : (p : ℕ → Bool) (m n : ℕ) → FirstBelow p m n → getD (listIf p m) 0 m ≡ n
+first-is p m n h =
+    ⊎-elim (λ l. list-none p m m (λ j k. h .none j (omega arith)) ∙ (let w = h .within in omega arith)) (λ l. list-first p m m n l (record { here = h .here l; none = h .none })) (le-or-lt m n)
+
+pub first-below : (p : ℕ → Bool) (m : ℕ) → FirstBelow p m (getD (listIf p m) 0 m)
+first-below p m =
+    ⊎-elim
+    (λ none. let f : FirstBelow p m m = record { within = le-refl m; here = λ l. absurd (omega arith); none = none } in subst (FirstBelow p m) (sym (first-is p m m f)) f)
+    (λ r. let f : FirstBelow p m (r .0) = record { within = (let l = r .1 in omega arith); here = λ l. r .2 .here; none = r .2 .none } in subst (FirstBelow p m) (sym (first-is p m (r .0) f)) f)
+    (least p m)
 
 -- ---- the greatest
 
@@ -170,6 +187,11 @@ pub any-found : (p f : ℕ → Bool) (n : ℕ) → anyIf p f n ≡ true → Foun
 any-found p f n =
     fold-keeps false _||_ (λ (b : Bool). b ≡ true → Found p f n) (λ e. absurd (false≢true e)) (λ a b x y e. ⊎-elim x y (or-cases a b e)) p f n
     (λ i l e h. record { i = i; under = l; member = e; holds = h })
+
+-- one answer for all members of a set that has one
+pub any-same : (p : ℕ → Bool) (c : Bool) (n i : ℕ) → i < n → p i ≡ true → anyIf p (λ j. c) n ≡ c
+any-same p true n i l h = any-true p (λ j. true) n i l h refl
+any-same p false n i l h = fold-keeps false _||_ (λ (a : Bool). a ≡ false) refl (λ a b x y. ap₂ _||_ x y) p (λ j. false) n (λ j k e. refl)
 
 -- the members that pass f, one at a time: what a loop that keeps them has kept in the end
 pub any-one : (p f : ℕ → Bool) (n j : ℕ) → (p j ≡ true → j < n) → anyIf p (λ i. f i && eqb i j) n ≡ (p j && f j)

@@ -13,6 +13,8 @@ use Rattle.basics.proofs.Tests.{by-test, if-yes, if-no}
 use Rattle.alphabet.specs.Alphabet.{allLetters}
 use Rattle.graph.specs.Graph.{Graph, noGraph}
 use Rattle.graph.specs.Readings.{readings, mark}
+use Rattle.graph.specs.Taken.{lettersTaken}
+use Rattle.graph.proofs.Taken.{taken-first}
 use Rattle.pattern.specs.Refusals.{patternRefusal, builtGraph}
 use Rattle.pattern.specs.Positions.{patternGraph}
 use Rattle.marks.specs.Answers.{Answered}
@@ -53,7 +55,7 @@ module _ (s a : List ℕ) where
 
   -- ---- what is promised
 
-  pub says-refusal : (k : ℕ) (r : Marked) → (k ≡ 0 → ⊥) → markRefusal s a ≡ k → (r .refusal ≡ k) × (r .count ≡ 0) × (r .mark ≡ pos 0) → MarkSays s a r
+  pub says-refusal : (k : ℕ) (r : Marked) → (k ≡ 0 → ⊥) → markRefusal s a ≡ k → (r .refusal ≡ k) × (r .count ≡ 0) × (r .mark ≡ pos 0) × (r .taken ≡ 0) → MarkSays s a r
   says-refusal k r d f h =
       let n : eqb (markRefusal s a) 0 ≡ false = ne-eqb (markRefusal s a) 0 (λ e. d (sym f ∙ e)) in
       record {
@@ -61,15 +63,21 @@ module _ (s a : List ℕ) where
         count = h .1 ∙ sym (if-no (min (readings (patternGraph s) a) (2 ^ 63)) 0 (eqb (markRefusal s a) 0) n);
         mark = h .2 ∙ sym (if-no (mark (patternGraph s) a) (pos 0) (eqb (markRefusal s a) 0) n);
         small = subst (λ (z : ℤ). natAbs z ≤ 36864) (sym (h .2)) zero-le;
+        taken = h .3 ∙ sym (if-no (lettersTaken (patternGraph s) a) 0 (eqb (markRefusal s a) 0) n);
+        few = let z = h .3 in omega arith;
       }
 
-  pub says-mark : (g : Graph) (r : Marked) → g ≡ builtGraph s → markRefusal s a ≡ 0 → length a ≤ 4096 → (r .refusal ≡ 0) × Answered g a (r .count) (r .mark) → MarkSays s a r
-  says-mark g r e f short h =
-      let w = subst (λ (x : Graph). Answered x a (r .count) (r .mark)) (e ∙ built-graph s (pattern-accepted f)) (h .1) in
+  pub says-mark : (g : Graph) (r : Marked) → g ≡ builtGraph s → markRefusal s a ≡ 0 → length a ≤ 4096 → (r .refusal ≡ 0) × Answered g a (r .count) (r .mark) × (r .taken ≡ lettersTaken g a) → MarkSays s a r
+  says-mark g r e f short given =
+      let h = subst (λ (x : Graph). Answered x a (r .count) (r .mark) × (r .taken ≡ lettersTaken x a)) (e ∙ built-graph s (pattern-accepted f)) (given .1, given .2) in
+      let w = h .0 in
+      let t = h .1 in
       let y : eqb (markRefusal s a) 0 ≡ true = eq-eqb (markRefusal s a) 0 f in
       record {
-        refusal = h .0 ∙ sym f;
+        refusal = given .0 ∙ sym f;
         count = w .counts ∙ sym (if-yes (min (readings (patternGraph s) a) (2 ^ 63)) 0 (eqb (markRefusal s a) 0) y);
         mark = w .marks ∙ sym (if-yes (mark (patternGraph s) a) (pos 0) (eqb (markRefusal s a) 0) y);
         small = let l = w .small in omega arith;
+        taken = t ∙ sym (if-yes (lettersTaken (patternGraph s) a) 0 (eqb (markRefusal s a) 0) y);
+        few = let l = taken-first (patternGraph s) a .within in omega arith;
       }

@@ -62,11 +62,12 @@ fn no_verdict(refusal: u8) -> Vetted
 
 // A refusal to mark.
 fn no_mark(refusal: u8) -> Marked
-    ensures { λ r. ⌜ (r .refusal ≡ refusal) × (r .count ≡ 0) × (r .mark ≡ pos 0) ⌝ }
+    ensures { λ r. ⌜ (r .refusal ≡ refusal) × (r .count ≡ 0) × (r .mark ≡ pos 0) × (r .taken ≡ 0) ⌝ }
 {
     Marked {
         refusal: refusal,
         count: 0,
         mark: 0,
+        taken: 0,
     }
 }

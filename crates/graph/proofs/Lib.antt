@@ -3,4 +3,5 @@ pub mod Walks
 pub mod Counting
 pub mod Best
 pub mod Marks
+pub mod Taken
 pub mod Bounds

@@ -5,18 +5,20 @@ use mathlib.Core.Path.{_≡_, sym, ap, _∙_, subst}
 use mathlib.Core.Logic.{_↔_}
 use mathlib.Core.Bool.{true}
 use mathlib.Core.List.{List, _++_}
-use Prim.Native.Nat.{ℕ, _+_, _*_, _^_, _≤_, min}
+use Prim.Native.Nat.{ℕ, _+_, _*_, _^_, _≤_, _<_, min}
 use native.Mathlib.Omega.{arith}
 use lib.Dec.{eqb}
 use lib.IntN.{ℤ, pos, natAbs}
-use lib.ListN.{length}
+use lib.ListN.{length, take}
 use lib.Signed.{_≤ℤ_}
 use borrow.Author.Tests.{eq-eqb, ne-eqb}
 use Rattle.basics.specs.Lists.{Apart, In}
 use Rattle.basics.proofs.Tests.{if-yes, if-no}
 use Rattle.alphabet.specs.Alphabet.{allLetters}
 use Rattle.graph.specs.Readings.{Transition, isReading, readings, creditOf, mark}
+use Rattle.graph.specs.Taken.{lettersTaken}
 use Rattle.graph.proofs.Counting.{reading-counts, count-reading}
+use Rattle.graph.proofs.Taken.{taken-first}
 use Rattle.pattern.specs.Grammar.{patternPart}
 use Rattle.pattern.specs.Refusals.{patternRefusal}
 use Rattle.pattern.specs.Positions.{positions, patternGraph}
@@ -50,11 +52,20 @@ pub record TrueMark (b s : List ℕ) (r : Marked) : Type 0 where
   pub mark-is-none : r .count ≡ 0 → r .mark ≡ pos 0
   -- It is from -36,864 to 36,864.
   pub mark-is-small : natAbs (r .mark) ≤ 36864
+  -- The letters taken are up to and with the first after which no state is possible, or all.
+  pub taken-is : r .taken ≡ lettersTaken (patternGraph b) s
+  pub taken-within : r .taken ≤ length s
+  -- If they are fewer than the answer has, no answer that begins with them has a reading;
+  pub taken-is-over : r .taken < length s → (t : List ℕ) → readings (patternGraph b) (take (r .taken) s ++ t) ≡ 0
+  -- with fewer letters it is not over: some answer that begins with those has a reading.
+  pub taken-no-sooner : (n : ℕ) → n < r .taken → (t : List ℕ) × (allLetters t ≡ true) × (1 ≤ readings (patternGraph b) (take n s ++ t))
+  -- An answer that has a reading is taken whole.
+  pub taken-whole : 1 ≤ r .count → r .taken ≡ length s
 
 pub record MarkKeeps (b s : List ℕ) (r : Marked) : Type 0 where
   -- Demand 1: each refusal under its own condition and no other; and it is a number and nothing else.
   pub refusal-is : r .refusal ≡ markRefusal b s
-  pub refusal-alone : (r .refusal ≡ 0 → ⊥) → (r .count ≡ 0) × (r .mark ≡ pos 0)
+  pub refusal-alone : (r .refusal ≡ 0 → ⊥) → (r .count ≡ 0) × (r .mark ≡ pos 0) × (r .taken ≡ 0)
   -- An accepted pattern always gets a mark, of any answer of up to 4,096 letters.
   pub accepted-gets-mark : patternRefusal b ≡ 0 → length s ≤ 4096 → allLetters s ≡ true → r .refusal ≡ 0
   pub true-mark : r .refusal ≡ 0 → TrueMark b s r
@@ -134,6 +145,7 @@ module _ (b s : List ℕ) (r : Marked) (says : MarkSays b s r) where
       let yes = eq-eqb (markRefusal b s) 0 none in
       let count : r .count ≡ min (readings (patternGraph b) s) (2 ^ 63) = says .count ∙ if-yes (min (readings (patternGraph b) s) (2 ^ 63)) 0 (eqb (markRefusal b s) 0) yes in
       let best : r .mark ≡ mark (patternGraph b) s = says .mark ∙ if-yes (mark (patternGraph b) s) (pos 0) (eqb (markRefusal b s) 0) yes in
+      let taken : r .taken ≡ lettersTaken (patternGraph b) s = says .taken ∙ if-yes (lettersTaken (patternGraph b) s) 0 (eqb (markRefusal b s) 0) yes in
       let some : 1 ≤ r .count → 1 ≤ readings (patternGraph b) s = λ l. omega arith in
       record {
         counts-exactly-texts = (
@@ -145,6 +157,11 @@ module _ (b s : List ℕ) (r : Marked) (says : MarkSays b s r) where
         mark-is-most = λ q h. subst (λ (n : ℤ). creditOf (patternGraph b) q ≤ℤ n) (sym best) (Demands.mark-is-most b s q a h);
         mark-is-none = λ e. best ∙ Demands.mark-is-none b s a (omega arith);
         mark-is-small = says .small;
+        taken-is = taken;
+        taken-within = omega (arith, taken, taken-first (patternGraph b) s .within);
+        taken-is-over = subst (λ (n : ℕ). n < length s → (t : List ℕ) → readings (patternGraph b) (take n s ++ t) ≡ 0) (sym taken) (λ l t. Demands.taken-is-over b s t a l);
+        taken-no-sooner = λ n l. Demands.taken-no-sooner b s n a (omega arith);
+        taken-whole = λ l. taken ∙ Demands.taken-is-whole b s a (some l);
       }
 
   -- `mark_answer` gave r.
@@ -152,14 +169,18 @@ module _ (b s : List ℕ) (r : Marked) (says : MarkSays b s r) where
   mark-answer-keeps = record {
     refusal-is = says .refusal;
     refusal-alone = λ d.
-        let no = ne-eqb (markRefusal b s) 0 (λ z. d (says .refusal ∙ z)) in
-        (says .count ∙ if-no (min (readings (patternGraph b) s) (2 ^ 63)) 0 (eqb (markRefusal b s) 0) no, says .mark ∙ if-no (mark (patternGraph b) s) (pos 0) (eqb (markRefusal b s) 0) no);
+        let no = ne-eqb (markRefusal b s) 0 (λ z. d (says .refusal ∙ z)) in (
+          says .count ∙ if-no (min (readings (patternGraph b) s) (2 ^ 63)) 0 (eqb (markRefusal b s) 0) no,
+          says .mark ∙ if-no (mark (patternGraph b) s) (pos 0) (eqb (markRefusal b s) 0) no,
+          says .taken ∙ if-no (lettersTaken (patternGraph b) s) 0 (eqb (markRefusal b s) 0) no,
+        );
     accepted-gets-mark = λ a l t. says .refusal ∙ Marking.accepted b s a l t;
     true-mark = true-mark;
   }
 
 -- For C: the header's shifts and masks, and the number that it makes of the 32 bits, give back what was packed.
-pub mark-fields-again : (b s : List ℕ) (old new n : ℕ) (h : MarkForC b s old new n) → (field n 32 8 ≡ h .marked .refusal) × (int32 (field n 0 32) ≡ h .marked .mark)
+pub mark-fields-again : (b s : List ℕ) (old new n : ℕ) (h : MarkForC b s old new n)
+    → (field n 32 8 ≡ h .marked .refusal) × (int32 (field n 0 32) ≡ h .marked .mark) × (field n 40 16 ≡ h .marked .taken)
 mark-fields-again b s old new n h = mark-fields b s old new n h
 
 -- `marking_mark` gave n, and behind the pointer stood `old` before and stands `new` after: the header's fields of n, with `new` for

@@ -6,15 +6,17 @@ use mathlib.Core.Path.{_≡_}
 use mathlib.Core.Logic.{_↔_}
 use mathlib.Core.Bool.{true, false}
 use mathlib.Core.List.{List, _++_}
-use Prim.Native.Nat.{ℕ, _+_, _*_, _^_, _≤_}
+use Prim.Native.Nat.{ℕ, _+_, _*_, _^_, _≤_, _<_}
 use lib.IntN.{pos}
-use lib.ListN.{length}
+use lib.ListN.{length, take}
 use lib.Signed.{_≤ℤ_}
 use Rattle.basics.specs.Lists.{Apart, In}
 use Rattle.alphabet.specs.Alphabet.{allLetters}
 use Rattle.graph.specs.Readings.{Transition, isReading, readings, creditOf, mark}
+use Rattle.graph.specs.Taken.{lettersTaken}
 use Rattle.graph.proofs.Counting as Counting
 use Rattle.graph.proofs.Marks as Marks
+use Rattle.graph.proofs.Taken as Taken
 use Rattle.pattern.specs.Parts.{Part, Bounds, outOfBounds, writtenOut}
 use Rattle.pattern.specs.Grammar.{patternPart}
 use Rattle.pattern.specs.Refusals.{patternRefusal}
@@ -22,9 +24,11 @@ use Rattle.pattern.specs.Positions.{positions, patternGraph}
 use Rattle.pattern.specs.Texts.{Text, Counted}
 use Rattle.pattern.proofs.Texts as Texts
 use Rattle.pattern.proofs.Intervals as Intervals
+use Rattle.pattern.proofs.Own.{some-position}
 use Rattle.pattern.proofs.Doubled.{trim}
 use Rattle.verdict.specs.Verdict.{verdict}
 use Rattle.verdict.specs.Evidence.{times, ShowsSteady, ShowsRunaway}
+use Rattle.verdict.proofs.Onward as Onward
 use Rattle.verdict.proofs.Bounds as Bounds
 
 -- ---- Demand 2
@@ -54,6 +58,19 @@ mark-is-most b s r a = Marks.mark-most (patternGraph b) s r
 -- "0 if there is none."
 pub mark-is-none : (b s : List ℕ) → patternRefusal b ≡ 0 → readings (patternGraph b) s ≡ 0 → mark (patternGraph b) s ≡ pos 0
 mark-is-none b s a = Marks.mark-none (patternGraph b) s
+
+-- The letters taken: up to and with the first after which no state is possible. If they are fewer than the answer has, no answer
+-- that begins with them has a reading;
+pub taken-is-over : (b s t : List ℕ) → patternRefusal b ≡ 0 → lettersTaken (patternGraph b) s < length s → readings (patternGraph b) (take (lettersTaken (patternGraph b) s) s ++ t) ≡ 0
+taken-is-over b s t a = Taken.taken-over (patternGraph b) s t
+
+-- with fewer letters it is not over: some answer that begins with those has a reading;
+pub taken-no-sooner : (b s : List ℕ) (n : ℕ) → patternRefusal b ≡ 0 → n < lettersTaken (patternGraph b) s → (t : List ℕ) × (allLetters t ≡ true) × (1 ≤ readings (patternGraph b) (take n s ++ t))
+taken-no-sooner b s n a l = Onward.live-goes-on (patternGraph b) (trim b a) (some-position (patternPart b)) (take n s) (Taken.taken-first (patternGraph b) s .none n l)
+
+-- and an answer that has a reading is taken whole.
+pub taken-is-whole : (b s : List ℕ) → patternRefusal b ≡ 0 → 1 ≤ readings (patternGraph b) s → lettersTaken (patternGraph b) s ≡ length s
+taken-is-whole b s a = Taken.taken-whole (patternGraph b) s
 
 -- ---- Demand 3: "Nobody who writes an answer can give it more readings than the verdict allows."
 

@@ -160,15 +160,20 @@ mark-fits (pos n) l = omega arith
 mark-fits (negsuc n) l = omega arith
 
 -- packed and unpacked again
-mark-again : (k b : ℕ) → Low k → b < 2 ^ 32 → (field (k * 2 ^ 32 + b) 32 8 ≡ k) × (field (k * 2 ^ 32 + b) 0 32 ≡ b)
-mark-again k b low small = omega arith
+mark-again : (t k b : ℕ) → t ≤ 4096 → Low k → b < 2 ^ 32
+    → let n = t * 2 ^ 40 + k * 2 ^ 32 + b in (field n 32 8 ≡ k) × (field n 0 32 ≡ b) × (field n 40 16 ≡ t)
+mark-again t k b few low small = omega arith
 
-pub mark-fields : (s a : List ℕ) (old new n : ℕ) (h : MarkForC s a old new n) → (field n 32 8 ≡ h .marked .refusal) × (int32 (field n 0 32) ≡ h .marked .mark)
+pub mark-fields : (s a : List ℕ) (old new n : ℕ) (h : MarkForC s a old new n)
+    → (field n 32 8 ≡ h .marked .refusal) × (int32 (field n 0 32) ≡ h .marked .mark) × (field n 40 16 ≡ h .marked .taken)
 mark-fields s a old new n h =
     let m = h .marked .mark in
     let l = mark-fits m (h .says .small) in
-    let f = mark-again (h .marked .refusal) (bits32 m) (omega (arith, h .says .refusal, mark-low s a)) (bits-low m l) in
-    (ap (λ (k : ℕ). field k 32 8) (h .packing) ∙ f .0, ap (λ (k : ℕ). int32 (field k 0 32)) (h .packing) ∙ ap int32 (f .1) ∙ bits-again m l)
+    let f = mark-again (h .marked .taken) (h .marked .refusal) (bits32 m) (h .says .few) (omega (arith, h .says .refusal, mark-low s a)) (bits-low m l) in (
+      ap (λ (k : ℕ). field k 32 8) (h .packing) ∙ f .0,
+      ap (λ (k : ℕ). int32 (field k 0 32)) (h .packing) ∙ ap int32 (f .1) ∙ bits-again m l,
+      ap (λ (k : ℕ). field k 40 16) (h .packing) ∙ f .2,
+    )
 
 pub mark-unpacks : (s a : List ℕ) (old new n : ℕ) → MarkForC s a old new n → MarkSays s a (markUnpacked n new)
 mark-unpacks s a old new n h =
@@ -179,4 +184,6 @@ mark-unpacks s a old new n h =
       count = ap₂ (λ (k c : ℕ). if eqb k 0 then c else 0) refusal (h .stored) ∙ sym (count-read s a old);
       mark = f .1 ∙ h .says .mark;
       small = subst (λ (z : ℤ). natAbs z ≤ 36864) (sym (f .1)) (h .says .small);
+      taken = f .2 ∙ h .says .taken;
+      few = let l = h .says .few in omega (arith, f .2);
     }

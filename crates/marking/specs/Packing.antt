@@ -26,10 +26,11 @@ bits32 (negsuc n) = 2 ^ 32 - suc n
 abbrev pub int32 : ℕ → ℤ
 int32 b = if ltb b (2 ^ 31) then pos b else subℕ b (2 ^ 32)
 
--- marking: the mark in bits 0 to 31, the refusal in 32 to 39; the count is not in the number, but stands behind a pointer where
--- there is no refusal
+-- marking: the mark in bits 0 to 31, the refusal in 32 to 39, the letters taken in 40 to 55; the count is not in the number, but
+-- stands behind a pointer where there is no refusal
 abbrev pub markPacked : Marked → ℕ
-markPacked r = r .refusal * 2 ^ 32 + bits32 (r .mark)
+markPacked r = r .taken * 2 ^ 40 + r .refusal * 2 ^ 32 + bits32 (r .mark)
 
 abbrev pub markUnpacked : ℕ → ℕ → Marked
-markUnpacked n count = record { refusal = field n 32 8; count = if eqb (field n 32 8) 0 then count else 0; mark = int32 (field n 0 32) }
+markUnpacked n count =
+    record { refusal = field n 32 8; count = if eqb (field n 32 8) 0 then count else 0; mark = int32 (field n 0 32); taken = field n 40 16 }

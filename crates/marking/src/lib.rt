@@ -27,8 +27,8 @@ pub extern "C" fn marking_vet(pattern: &[u8], evidence: &mut [u8]) -> u64
     marking_vet_in(pattern, &mut *evidence, &mut scratch)
 }
 
-// Marks an answer. The result has the mark in bits 0 to 31, as two's complement, and the refusal in 32 to 39. The count is stored
-// behind the pointer where there is no refusal; at a refusal nothing is read or stored there.
+// Marks an answer. The result has the mark in bits 0 to 31, as two's complement, the refusal in 32 to 39 and the letters taken in
+// 40 to 55. The count is stored behind the pointer where there is no refusal; at a refusal nothing is read or stored there.
 #[no_mangle]
 pub extern "C" fn marking_mark(pattern: &[u8], answer: &[u8], count: &mut u64) -> u64
     ensures { λ r. ⌜ MarkForC (now (pattern .entry)) (now (answer .entry)) (now (count .entry)) (now (count .exit)) r ⌝ }
@@ -38,7 +38,7 @@ pub extern "C" fn marking_mark(pattern: &[u8], answer: &[u8], count: &mut u64) -
         *count = m.count;
     }
     let mark = m.mark;
-    m.refusal as u64 * 0x1_0000_0000 + twos_complement(mark)
+    m.taken as u64 * 0x100_0000_0000 + m.refusal as u64 * 0x1_0000_0000 + twos_complement(mark)
 }
 
 // A number as the 32 bits of its two's complement.

@@ -1,10 +1,10 @@
--- Forward rows give the backward counts. One theorem for both folds: what the possible states make of the letters to come is what
+-- Forward rows give the backward counts. One theorem for all folds: what the possible states make of the letters to come is what
 -- the next row makes of those after the first, since the pairs of a state and a position after it, each as often as links lead from
 -- the one to the other, can be taken in either order.
 -- Assumes nothing.
 use mathlib.Core.Path.{_≡_, refl, sym, ap, ap₂, _∙_, subst}
 use mathlib.Core.Logic.{⊎-elim}
-use mathlib.Core.Bool.{Bool, true, false, _&&_, and-true, and-false, and-comm, true≢false, false≢true}
+use mathlib.Core.Bool.{Bool, true, false, not, _&&_, and-true, and-false, and-comm, _||_, or-false, or-comm, or-assoc, true≢false, false≢true}
 use mathlib.Core.List.{List, [], _∷_, _++_, append-nil, append-assoc}
 use Prim.Native.Nat.{ℕ, suc, _+_, _*_, _%_, _^_, _≤_, _<_, zero-le, min, max}
 use native.Mathlib.Nat.{add-zero, zero-add, add-comm, add-assoc, mul-zero, mul-one, one-mul, mul-add, mul-comm, mul-assoc, mod-eq-of-lt, lt-of-le-of-lt}
@@ -16,19 +16,21 @@ use lib.IntN.{ℤ, pos, natAbs, _+ℤ_, +ℤ-idr}
 use lib.ListN.{length, getD, length-append}
 use borrow.Author.Tests.{eqb-true, eq-eqb, ne-eqb, ltb-true, ltb-false}
 use Rattle.basics.specs.Choice.{if_then_else_}
-use Rattle.basics.specs.Folds.{foldIf, sumIf}
+use Rattle.basics.specs.Folds.{foldIf, sumIf, anyIf}
 use Rattle.basics.proofs.Tests.{and-parts, by-test, le-or-lt, if-yes, if-no, if-either}
 use Rattle.basics.proofs.Lists.{within-any}
-use Rattle.basics.proofs.Folds.{fold-zero, fold-yes, fold-same, fold-keeps, fold-through, fold-longer, fold-where, fold-swap, max-le}
+use Rattle.basics.proofs.Folds.{fold-zero, fold-yes, fold-same, fold-keeps, fold-through, fold-longer, fold-where, fold-swap, fold-none, any-one, any-same, max-le}
 use Rattle.bits.specs.Bits.{hasBit}
 use Rattle.bits.proofs.Laws.{has-none, has-pow, has-and, least-trailing, member-below}
 use Rattle.bits.proofs.Walk.{walk-end}
 use Rattle.graph.specs.Graph.{Graph, some, isPosition, next, step, Bounded}
 use Rattle.graph.specs.Built.{lowered, creditIn}
 use Rattle.graph.specs.Readings.{countFrom, readings, noReading, earns, better, added, bestFrom, markOf}
+use Rattle.graph.specs.Taken.{leads, possible, dead}
 use Rattle.graph.proofs.Walks.{position-of}
 use Rattle.graph.proofs.Best.{better-none, better-comm, better-assoc, added-better, added-twice, added-nothing, lowered-adds, lowered-low, raised-low}
 use Rattle.graph.proofs.Marks.{mark-none}
+use Rattle.graph.proofs.Taken.{possible-live}
 use Rattle.frontier.specs.Rows.{cell, countOf, mostOf, arriving, weight, weighted, Stepped}
 use Rattle.marks.specs.Answers.{bestOf, Row, linksOfTables, Summed}
 use Rattle.marks.proofs.Values.{sum-cut, sum-times, best-added}
@@ -96,6 +98,7 @@ module _ (g : Graph) (from : ℕ) (counts best : List ℕ) (one : cell counts fr
         alone noReading better (λ u. added (lowered 0 (cell best from u)) (bestFrom g u t))
         ∙ ap (λ (x : ℕ). added (lowered 0 x) (bestFrom g 0 t)) nothing ∙ added-nothing (bestFrom g 0 t);
     low = λ u e. let z = eqb-true 0 u (sym (has-pow 0 u) ∙ e) in subst (λ (v : ℕ). cell best from v ≤ 0) z (omega (arith, nothing));
+    reached = λ t v. alone false _||_ (λ u. leads g u t v);
   }
 
 -- the greatest raised sum of possible states
@@ -150,14 +153,23 @@ module _ (g : Graph) (bounded : Bounded g) (b : ℕ) (linked : Bool) (more befor
   raised-on i e =
       ap₂ lowered (length-append s (b ∷ [])) (best-here i e) ∙ sym (lowered-adds (length s) 1 (most i) (own i)) ∙ ap (λ (c : ℤ). lowered (length s) (most i) +ℤ c) (sym (earned i))
 
-  gathered : (t : List ℕ) (i : ℕ) → hasBit r i ≡ true
-      → added (lowered (length (s ++ (b ∷ []))) (cell best′ to i)) (bestFrom g i t) ≡ bestOf (arriving before active i) (λ u. added (lowered (length s) (cell best from u)) (added (g .credit i) (bestFrom g i t)))
-  gathered t i e =
+  -- some state arrives at i
+  abbrev arrives : ℕ → ℕ
+  arrives i = trailingZeros 61 (arriving before active i)
+
+  some-arrives : (i : ℕ) → hasBit r i ≡ true → (arrives i < 61) × (here i (arrives i) ≡ true)
+  some-arrives i e =
       let m = arriving before active i in
       let some = ltb-true 0 m (and-parts (hasBit holds i) (ltb 0 m) (sym (st .states i) ∙ e) .1) in
       let u = least-trailing 61 m some (lt-of-le-of-lt (and-le-r (getD before i 0) active) small) in
+      (u .0, u .1 .here)
+
+  gathered : (t : List ℕ) (i : ℕ) → hasBit r i ≡ true
+      → added (lowered (length (s ++ (b ∷ []))) (cell best′ to i)) (bestFrom g i t) ≡ bestOf (arriving before active i) (λ u. added (lowered (length s) (cell best from u)) (added (g .credit i) (bestFrom g i t)))
+  gathered t i e =
+      let u = some-arrives i e in
       ap (λ (c : ℤ). added c (bestFrom g i t)) (raised-on i e) ∙ sym (added-twice (lowered (length s) (most i)) (g .credit i) (bestFrom g i t))
-      ∙ sym (best-added (here i) (cell best from) 61 (trailingZeros 61 m) (u .0) (u .1 .here) (length s) (added (g .credit i) (bestFrom g i t)))
+      ∙ sym (best-added (here i) (cell best from) 61 (arrives i) (u .0) (u .1) (length s) (added (g .credit i) (bestFrom g i t)))
 
   pub row-on : Row g (s ++ (b ∷ [])) to r counts′ best′
   row-on = record {
@@ -182,6 +194,11 @@ module _ (g : Graph) (bounded : Bounded g) (b : ℕ) (linked : Bool) (more befor
         let c = own-low i in
         let m = most-low i in
         omega (arith, best-here i e, length-append s (b ∷ []));
+    reached = λ t v.
+        fold-same false _||_ (hasBit r) (hasBit r) (λ i. leads g i t v) (λ i. anyIf (here i) (λ u. leads g i t v) 61) 61 (λ i l. refl)
+        (λ i l e. let u = some-arrives i e in sym (any-same (here i) (leads g i t v) 61 (arrives i) (u .0) (u .1)))
+        ∙ sym (onward g bounded b before active holds r follows held (st .states) false _||_ or-false or-comm or-assoc (λ u x. x) (λ u. refl) (λ u x y. refl) (λ u i. leads g i t v))
+        ∙ row .reached (b ∷ t) v ∙ ap (λ (x : List ℕ). possible g x v) (sym (append-assoc s (b ∷ []) t));
   }
 
 -- where no state is possible, none will be
@@ -192,10 +209,28 @@ row-stop g s t from active counts best z row = record {
   marked = λ q. none noReading better (λ u. added (lowered (length (s ++ t)) (cell best from u)) (bestFrom g u q)) (λ u. added (lowered (length s) (cell best from u)) (bestFrom g u (t ++ q)))
       ∙ row .marked (t ++ q) ∙ ap (bestFrom g 0) (sym (append-assoc s t q));
   low = λ u e. absurd (true≢false (sym e ∙ ap (λ (m : ℕ). hasBit m u) z ∙ has-none u));
+  reached = λ q v. none false _||_ (λ u. leads g u q v) (λ u. leads g u (t ++ q) v) ∙ row .reached (t ++ q) v ∙ ap (λ (x : List ℕ). possible g x v) (sym (append-assoc s t q));
 }
   where
     none : {A : Type 0} (n : A) (join : A → A → A) (f h : ℕ → A) → foldIf n join (hasBit active) f 61 ≡ foldIf n join (hasBit active) h 61
     none n join f h = walk-end n join f 61 active z ∙ sym (walk-end n join h 61 active z)
+
+-- the set of a row has the states that are possible
+module _ (g : Graph) (s : List ℕ) (from active : ℕ) (counts best : List ℕ) (small : active < 2 ^ 61) (row : Row g s from active counts best) where
+  row-possible : (v : ℕ) → hasBit active v ≡ possible g s v
+  row-possible v =
+      sym (any-one (hasBit active) (λ u. true) 61 v (member-below 61 active v small) ∙ and-true (hasBit active v)) ∙ row .reached [] v ∙ ap (λ (x : List ℕ). possible g x v) (append-nil s)
+
+  pub row-dead : dead g s ≡ eqb active 0
+  row-dead =
+      ⊎-elim
+      (λ l.
+      let z : active ≡ 0 = omega arith in
+      ap not (fold-none false _||_ (possible g s) (λ v. true) (suc (g .positions)) (λ v _. sym (row-possible v) ∙ ap (λ (m : ℕ). hasBit m v) z ∙ has-none v)) ∙ sym (eq-eqb active 0 z))
+      (λ l.
+      let u = least-trailing 61 active l small in
+      possible-live g s (trailingZeros 61 active) (sym (row-possible (trailingZeros 61 active)) ∙ u .1 .here) ∙ sym (ne-eqb active 0 (λ z. omega arith)))
+      (le-or-lt active 0)
 
 -- at the end the possible states at which a reading may end are counted
 module _ (g : Graph) (s : List ℕ) (from active lasts : ℕ) (counts best : List ℕ) (last : (u : ℕ) → g .last u ≡ hasBit lasts u) (small : active < 2 ^ 61) (row : Row g s from active counts best) where

@@ -1,5 +1,5 @@
 -- What the rows say of the answer. It is said of every way that the answer can go on: from the row alone the count and the mark of
--- the whole answer follow.
+-- the whole answer follow, and which states will be possible.
 use mathlib.Core.Path.{_≡_}
 use mathlib.Core.Bool.{Bool, true}
 use mathlib.Core.List.{List, _++_}
@@ -8,11 +8,12 @@ use lib.Dec.{eqb}
 use lib.IntN.{ℤ, pos, natAbs}
 use lib.ListN.{length, getD}
 use Rattle.basics.specs.Choice.{if_then_else_}
-use Rattle.basics.specs.Folds.{foldIf}
+use Rattle.basics.specs.Folds.{foldIf, anyIf}
 use Rattle.bits.specs.Bits.{hasBit}
 use Rattle.graph.specs.Graph.{Graph, Bounded}
 use Rattle.graph.specs.Built.{lowered, creditIn}
 use Rattle.graph.specs.Readings.{countFrom, readings, Best, noReading, better, added, bestFrom, mark}
+use Rattle.graph.specs.Taken.{leads, possible, lettersTaken}
 use Rattle.frontier.specs.Rows.{cell, countOf, weight}
 
 -- over the members of a set: the best
@@ -24,6 +25,7 @@ pub record Row (g : Graph) (s : List ℕ) (from active : ℕ) (counts best : Lis
   pub counted : (t : List ℕ) → countOf active (λ u. cell counts from u * countFrom g u t) ≡ min (readings g (s ++ t)) (2 ^ 63)
   pub marked : (t : List ℕ) → bestOf active (λ u. added (lowered (length s) (cell best from u)) (bestFrom g u t)) ≡ bestFrom g 0 (s ++ t)
   pub low : (u : ℕ) → hasBit active u ≡ true → cell best from u ≤ 18 * length s
+  pub reached : (t : List ℕ) (v : ℕ) → anyIf (hasBit active) (λ u. leads g u t v) 61 ≡ possible g (s ++ t) v
 
 -- how many links lead from state u to position i: none where u is not before it
 abbrev pub linksOfTables : List ℕ → Bool → List ℕ → ℕ → ℕ → ℕ
@@ -55,7 +57,8 @@ pub record Summed (g : Graph) (s : List ℕ) (count most : ℕ) : Type 0 where
   pub answered : Answered g s count (markOfSum count most (length s))
   pub low : most ≤ 18 * length s
 
--- in the graph of the tables: how many positions it has plays no part, as long as it is within the bounds
-abbrev pub TablesSummed : List ℕ → List ℕ → ℕ → List ℕ → Bool → List ℕ → List ℕ → ℕ → ℕ → Type 0
-TablesSummed holders before lasts credits linked more s count most = (positions : ℕ) → Bounded (graphOfTables positions holders before lasts credits linked more)
-    → Summed (graphOfTables positions holders before lasts credits linked more) s count most
+-- in the graph of the tables, with how many letters were taken: how many positions it has plays no part, as long as it is within
+-- the bounds
+abbrev pub TablesSummed : List ℕ → List ℕ → ℕ → List ℕ → Bool → List ℕ → List ℕ → ℕ → ℕ → ℕ → Type 0
+TablesSummed holders before lasts credits linked more s count most taken =
+    (positions : ℕ) → let g = graphOfTables positions holders before lasts credits linked more in Bounded g → Summed g s count most × (taken ≡ lettersTaken g s)

@@ -1,4 +1,5 @@
-// Marking: the number of readings of an answer and its best credit, forward over the letters, by two rows in turn.
+// Marking: the number of readings of an answer, its best credit and how many of its letters are taken, forward over the letters, by
+// two rows in turn.
 use frontier::Sum;
 use graph::Built;
 ghost use mathlib.Core.Path.{_≡_};
@@ -7,21 +8,24 @@ ghost use Prim.Native.Nat.{ℕ, _<_, _≤_, _*_, _^_};
 ghost use lib.ListN.{length, getD};
 ghost use Rattle.graph.specs.Graph.{Bounded, SingleLinks};
 ghost use Rattle.graph.specs.Built.{graphOfBuilt};
+ghost use Rattle.graph.specs.Taken.{lettersTaken};
 ghost use Rattle.marks.specs.Answers.{markOfSum, Answered, TablesSummed};
 
-// What marking gives: the refusal, or 0 and the number of readings, 2^63 where it is that or more, and the most credit that one
-// earns, which may be below zero, 0 where there is none. By a built pattern no answer is refused.
+// What marking gives: the refusal, or 0 and the number of readings, 2^63 where it is that or more, the most credit that one
+// earns, which may be below zero, 0 where there is none, and how many letters were taken: up to and with the first after which no
+// state is possible, or all. By a built pattern no answer is refused.
 pub struct Marked {
     pub refusal: u8,
     pub count: u64,
     pub mark: i32,
+    pub taken: u32,
 }
 
-// The number of readings of an answer and its mark. A byte that is no letter is held by no position. `more` is the table of the
+// The number of readings of an answer, its mark and the letters taken. A byte that is no letter is held by no position. `more` is the table of the
 // links beyond the first; it is read only where `b.doubled` says that there is one.
 pub fn mark(b: Built, more: &[u8], answer: &[u8]) -> Marked
     requires { ⌜ Bounded (graphOfBuilt b (now more)) × (b .doubled ≡ false → SingleLinks (graphOfBuilt b (now more))) × (length (now more) ≡ 3721) × (length (now answer) ≤ 4096) ⌝ }
-    ensures { λ r. ⌜ (r .refusal ≡ 0) × Answered (graphOfBuilt b (now (more .entry))) (now (answer .entry)) (r .count) (r .mark) ⌝ }
+    ensures { λ r. ⌜ (r .refusal ≡ 0) × Answered (graphOfBuilt b (now (more .entry))) (now (answer .entry)) (r .count) (r .mark) × (r .taken ≡ lettersTaken (graphOfBuilt b (now (more .entry))) (now (answer .entry))) ⌝ }
 {
     let follow = b.follow;
     let before = columns::states_before(&follow, b.positions);
@@ -30,7 +34,7 @@ pub fn mark(b: Built, more: &[u8], answer: &[u8]) -> Marked
     let credits = b.credits;
     let mut counts = [0u64; 122];
     let mut best = [0u32; 122];
-    let sum = run(
+    let end = run(
         &mut counts,
         &mut best,
         answer,
@@ -41,11 +45,14 @@ pub fn mark(b: Built, more: &[u8], answer: &[u8]) -> Marked
         b.doubled,
         more,
     );
+    let sum = end.sum;
     let mark = mark_of_sum(sum, answer.len());
+    let taken = end.taken as u32;
     Marked {
         refusal: 0,
         count: sum.count,
         mark: mark,
+        taken: taken,
     }
 }
 
@@ -60,6 +67,12 @@ fn mark_of_sum(sum: Sum, letters: usize) -> i32
     sum.most as i32 - (9 * letters) as i32
 }
 
+// What the rows come to, and after how many letters.
+struct End {
+    sum: Sum,
+    taken: usize,
+}
+
 // The answer, letter by letter, until no state is possible. The rows are at 0 and at 61, in turn.
 fn run(
     counts: &mut [u64],
@@ -71,9 +84,9 @@ fn run(
     credits: &[u8; 61],
     linked: bool,
     more: &[u8],
-) -> Sum
+) -> End
     requires { ⌜ (122 ≤ length (now counts)) × (122 ≤ length (now best)) × (length (now answer) ≤ 4096) × ((b : ℕ) → getD (now holders) b 0 < 2 ^ 61) × (length (now credits) ≡ 61) × (3721 ≤ length (now more)) ⌝ }
-    ensures { λ r. ⌜ TablesSummed (now (holders .entry)) (now (before .entry)) lasts (now (credits .entry)) linked (now (more .entry)) (now (answer .entry)) (r .count) (r .most) ⌝ }
+    ensures { λ r. ⌜ TablesSummed (now (holders .entry)) (now (before .entry)) lasts (now (credits .entry)) linked (now (more .entry)) (now (answer .entry)) (r .sum .count) (r .sum .most) (r .taken) ⌝ }
 {
     counts[0] = 1;
     best[0] = 0;
@@ -98,5 +111,8 @@ fn run(
         from = to;
         k += 1;
     }
-    frontier::gather(counts, best, from, active & lasts)
+    End {
+        sum: frontier::gather(counts, best, from, active & lasts),
+        taken: k,
+    }
 }

@@ -7,6 +7,7 @@ pub mod Reached
 pub mod Flags
 pub mod Parting
 pub mod Routes
+pub mod Onward
 pub mod Pivots
 pub mod Shows
 pub mod Bounds

@@ -35,11 +35,11 @@ module _ (g : Graph) where
 
   pub first-pivot : (firstPivot g ≡ 0 → ⊥) → (isPosition g (firstPivot g) ≡ true) × (isPivot g (firstPivot g) ≡ true) × ((q : ℕ) → isPosition g q ≡ true → q < firstPivot g → isPivot g q ≡ false)
   first-pivot h =
-      ⊎-elim (λ none. absurd (h (list-none pivotAt (suc (g .positions)) none)))
+      ⊎-elim (λ none. absurd (h (list-none pivotAt (suc (g .positions)) 0 none)))
       (λ r.
       let t = r .0 in
       let p = and-parts (isPosition g t) (isPivot g t) (r .2 .here) in
-      subst (λ (x : ℕ). (isPosition g x ≡ true) × (isPivot g x ≡ true) × ((q : ℕ) → isPosition g q ≡ true → q < x → isPivot g q ≡ false)) (sym (list-first pivotAt (suc (g .positions)) t (r .1) (r .2)))
+      subst (λ (x : ℕ). (isPosition g x ≡ true) × (isPivot g x ≡ true) × ((q : ℕ) → isPosition g q ≡ true → q < x → isPivot g q ≡ false)) (sym (list-first pivotAt (suc (g .positions)) 0 t (r .1) (r .2)))
       (p .0, p .1, λ q i l. ap (λ (b : Bool). b && isPivot g q) (sym i) ∙ r .2 .none q l))
       (least pivotAt (suc (g .positions)))
 
@@ -47,16 +47,16 @@ module _ (g : Graph) where
   not-pivot q h = by-test (isPosition g q) (λ i. ap₂ _&&_ i (h i)) (λ i. ap (λ (b : Bool). b && isPivot g q) i)
 
   pub pivot-is-first : (q : ℕ) → isPosition g q ≡ true → isPivot g q ≡ true → ((j : ℕ) → isPosition g j ≡ true → j < q → isPivot g j ≡ false) → firstPivot g ≡ q
-  pivot-is-first q i h none = list-first pivotAt (suc (g .positions)) q (position-low q i) (record { here = and-of (isPosition g q) (isPivot g q) i h; none = λ j l. not-pivot j (λ k. none j k l) })
+  pivot-is-first q i h none = list-first pivotAt (suc (g .positions)) 0 q (position-low q i) (record { here = and-of (isPosition g q) (isPivot g q) i h; none = λ j l. not-pivot j (λ k. none j k l) })
 
   pub pivot-none : ((q : ℕ) → isPosition g q ≡ true → isPivot g q ≡ false) → firstPivot g ≡ 0
-  pivot-none h = list-none pivotAt (suc (g .positions)) (λ q l. not-pivot q (h q))
+  pivot-none h = list-none pivotAt (suc (g .positions)) 0 (λ q l. not-pivot q (h q))
 
   pub none-pivot : firstPivot g ≡ 0 → (q : ℕ) → isPosition g q ≡ true → isPivot g q ≡ false
   none-pivot h q i =
       ⊎-elim (λ none. ap (λ (b : Bool). b && isPivot g q) (sym i) ∙ none q (position-low q i))
       (λ r.
-      let e = list-first pivotAt (suc (g .positions)) (r .0) (r .1) (r .2) in
+      let e = list-first pivotAt (suc (g .positions)) 0 (r .0) (r .1) (r .2) in
       let p = position-of g (r .0) (and-parts (isPosition g (r .0)) (isPivot g (r .0)) (r .2 .here) .0) in
       absurd (omega arith))
       (least pivotAt (suc (g .positions)))
