@@ -1,5 +1,5 @@
 /*
- * A client in C: vets a pattern, shows what the verdict rests on, and marks answers by the pattern.
+ * A client in C: vets a pattern, shows what the verdict rests on, marks answers by the pattern, and shows where one goes wrong.
  *
  *   client PATTERN [ANSWER ..]
  *
@@ -134,7 +134,7 @@ static void show_marked(const uint8_t *text, size_t len, size_t begin, size_t en
         printf("    \"");
         show_text(text + at, stop - at);
         printf("\"\n");
-        if (at >= end)
+        if (at >= end || stop <= begin)
             continue;
         printf("     ");
         for (size_t i = at; i < stop && i < end; i++)
@@ -198,12 +198,17 @@ static struct marking_marked mark(const char *pattern, const char *answer) {
     struct marking_marked m =
         marking_mark_unpack(marking_mark(bytes(pattern), strlen(pattern), bytes(answer), strlen(answer), &count));
     show_argument("answer", answer);
-    if (m.refusal != MARKING_ACCEPTED)
+    if (m.refusal != MARKING_ACCEPTED) {
         printf("refused, %u: %s\n", m.refusal, reason(m.refusal));
-    else
-        printf("%s, mark %d\n  %s\n", readings(count), (int)m.mark,
-               count > TRIED ? "past the " TRIED_TEXT " that the marking machine tries: its mark may be lower"
-                             : "within the " TRIED_TEXT " that the marking machine tries: it finds this mark");
+        return m;
+    }
+    printf("%s, mark %d\n  %s\n", readings(count), (int)m.mark,
+           count > TRIED ? "past the " TRIED_TEXT " that the marking machine tries: its mark may be lower"
+                         : "within the " TRIED_TEXT " that the marking machine tries: it finds this mark");
+    if (m.taken < strlen(answer)) {
+        printf("  it goes wrong at letter %u; no answer that begins like this has a reading:\n", (unsigned)m.taken);
+        show_marked(bytes(answer), m.taken, m.taken - 1, m.taken);
+    }
     return m;
 }
 

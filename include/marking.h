@@ -84,6 +84,11 @@ struct marking_vetted {
 struct marking_marked {
     enum marking_refusal refusal;
     int32_t mark; /* the most credit that one reading earns, which may be below zero; 0 where there is no reading */
+    /*
+     * Letters of the answer that were taken: up to and with the first at which no position is possible any more, all of them where
+     * there is none. Below the answer's length, no answer that begins with these letters has a reading. 0 at a refusal.
+     */
+    size_t taken;
 };
 
 /*
@@ -104,7 +109,8 @@ uint64_t marking_vet_in(const uint8_t *pattern, size_t pattern_len, uint8_t *evi
  * more.
  * The number returned, for marking_mark_unpack:
  *   bits 0 to 31   the mark, an int32_t as two's complement
- *   bits 32 to 39  the refusal, 0 for none; at a refusal the mark is 0
+ *   bits 32 to 39  the refusal, 0 for none; at a refusal all other bits are 0
+ *   bits 40 to 55  the letters taken
  */
 uint64_t marking_mark(const uint8_t *pattern, size_t pattern_len, const uint8_t *answer, size_t answer_len, uint64_t *count);
 
@@ -128,6 +134,7 @@ static inline struct marking_marked marking_mark_unpack(uint64_t bits) {
     struct marking_marked m;
     m.refusal = (enum marking_refusal)(bits >> 32 & 0xff);
     m.mark = low <= INT32_MAX ? (int32_t)low : -(int32_t)(UINT32_MAX - low) - 1; /* an int32_t holds what is cast */
+    m.taken = (size_t)(bits >> 40 & 0xffff);
     return m;
 }
 

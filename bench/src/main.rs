@@ -11,11 +11,14 @@ extern "C" {
     fn marking_mark(pattern: *const u8, pattern_len: usize, answer: *const u8, answer_len: usize, count: *mut u64) -> u64;
 }
 
-fn mark(pattern: &[u8], answer: &[u8]) -> Result<(u64, i32), u8> {
+/// The count, the mark and the letters taken, or the refusal.
+type Marked = Result<(u64, i32, usize), u8>;
+
+fn mark(pattern: &[u8], answer: &[u8]) -> Marked {
     let mut count = 0;
     let r = unsafe { marking_mark(pattern.as_ptr(), pattern.len(), answer.as_ptr(), answer.len(), &mut count) };
     match (r >> 32) as u8 {
-        0 => Ok((count, r as u32 as i32)),
+        0 => Ok((count, r as u32 as i32, (r >> 40) as usize)),
         n => Err(n),
     }
 }
@@ -139,7 +142,7 @@ fn marking() {
             assert_eq!(got, plain::mark_all_pairs(&l.pattern, a));
         }
         let n = if l.answers[0].len() > 1000 { 1 } else { 500 };
-        let run = |f: fn(&[u8], &[u8]) -> Result<(u64, i32), u8>, n: usize| {
+        let run = |f: fn(&[u8], &[u8]) -> Marked, n: usize| {
             time(7, || {
                 for _ in 0..n {
                     for a in &l.answers {
@@ -266,7 +269,7 @@ fn reading_of(rows: Vec<(&'static str, Vec<Vec<u8>>)>) {
     let mut ratios = Vec::new();
     for (name, list) in rows {
         let n = 200;
-        let run = |f: fn(&[u8], &[u8]) -> Result<(u64, i32), u8>| {
+        let run = |f: fn(&[u8], &[u8]) -> Marked| {
             time(7, || {
                 for _ in 0..n {
                     for p in &list {
@@ -281,6 +284,52 @@ fn reading_of(rows: Vec<(&'static str, Vec<Vec<u8>>)>) {
     }
     let mean = (ratios.iter().map(|r| r.ln()).sum::<f64>() / ratios.len() as f64).exp();
     println!("{:44} {:8} {:9}  {:6.2}", "geometric mean", "", "", mean);
+}
+
+/// A pattern, and a right answer of 4,096 letters, which goes wrong where its tenth letter is made another.
+fn at_the_tenth() -> Vec<(&'static str, Vec<u8>, Vec<u8>, u8)> {
+    let mut r = Random(2);
+    let mut text = |letters: &[u8], n: usize| -> Vec<u8> { (0..n).map(|_| letters[r.below(letters.len())]).collect() };
+    let letters = text(b"abcdefgh", 4096);
+    let words = b"word after ".repeat(373)[..4096].to_vec();
+    let ordinary = [&b"the quick brown fox jumped over "[..], &text(b"abcdefgh ", 4064)].concat();
+    let some = format!("({}|{}|{}|{})*", "[a-d]".repeat(13), "[c-f]".repeat(15), "[e-h]".repeat(16), "[a-h]".repeat(16));
+    let nearly_all = format!("({}|{})*", "([^~]|[^~])".repeat(13), "([^~]|[^~])".repeat(17));
+    vec![
+        ("[a-z]+( [a-z]+)*", b"[a-z]+( [a-z]+)*".to_vec(), words.clone(), b'#'),
+        ("ordinary text", ORDINARY.to_vec(), ordinary, b'#'),
+        ("[a-h]{60,}", b"[a-h]{60,}".to_vec(), letters.clone(), b'#'),
+        ("60 positions, each letter held by some", some.into_bytes(), letters.clone(), b'#'),
+        (".{9}[^~].*", b".{9}[^~].*".to_vec(), letters.clone(), b'~'),
+        ("60 classes of all letters but one", nearly_all.into_bytes(), letters.clone(), b'~'),
+        ("([a-z]+ ?)+", b"([a-z]+ ?)+".to_vec(), words, b'#'),
+        ("60 positions, repeats in repeats", format!("({})*", "(([^~]|[^~])+)+".repeat(30)).into_bytes(), letters, b'~'),
+    ]
+}
+
+/// Long answers that go wrong at their tenth letter: the whole call beside reading the pattern alone, by a mark of the empty answer, and
+/// beside the whole call on a right answer as long.
+fn wrong() {
+    println!("\n4,096 letters, wrong at the tenth              reading     wrong   ratio     right");
+    for (name, pattern, right, other) in at_the_tenth() {
+        let mut answer = right.clone();
+        answer[9] = other;
+        for a in [&right, &answer] {
+            let got = mark(&pattern, a);
+            assert_eq!(got, plain::mark(&pattern, a), "{name}");
+            assert_eq!(got, plain::mark_all_pairs(&pattern, a), "{name}");
+            assert!(got.is_ok_and(|(count, _, taken)| (count > 0, taken) == if *a == right { (true, 4096) } else { (false, 10) }), "{name}");
+        }
+        let run = |answer: &[u8], n: usize| {
+            time(7, || {
+                for _ in 0..n {
+                    let _ = black_box(mark(black_box(&pattern), black_box(answer)));
+                }
+            }) / n as f64
+        };
+        let (reading, wrong, right) = (run(b"", 1000), run(&answer, 1000), run(&right, 10));
+        println!("{:44} {:8.2} {:9.2}  {:6.2} {:9.1}", name, reading * 1e6, wrong * 1e6, wrong / reading, right * 1e6);
+    }
 }
 
 /// How the library's time grows with an answer's letters and with a pattern's positions, and what a term takes.
@@ -323,5 +372,6 @@ fn main() {
     marking();
     vetting();
     reading();
+    wrong();
     growth();
 }

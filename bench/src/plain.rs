@@ -407,8 +407,8 @@ fn accepted(text: &[u8], answer: &[u8], b: &mut Built) -> Result<(), u8> {
     Ok(())
 }
 
-/// Marking by sets.
-pub fn mark(text: &[u8], answer: &[u8]) -> Result<(u64, i32), u8> {
+/// Marking by sets: the count, the mark and the letters taken.
+pub fn mark(text: &[u8], answer: &[u8]) -> Result<(u64, i32, usize), u8> {
     let mut b = Built::new();
     accepted(text, answer, &mut b)?;
     let s = sets(&b);
@@ -418,13 +418,13 @@ pub fn mark(text: &[u8], answer: &[u8]) -> Result<(u64, i32), u8> {
 }
 
 #[inline(never)]
-fn mark_by<const LINKED: bool>(b: &Built, s: &Sets, numbers: &[[u8; 61]], answer: &[u8]) -> (u64, i32) {
+fn mark_by<const LINKED: bool>(b: &Built, s: &Sets, numbers: &[[u8; 61]], answer: &[u8]) -> (u64, i32, usize) {
     let mut counts = [[0u64; 61]; 2];
     let mut best = [[0i32; 61]; 2];
     counts[0][0] = 1;
     let mut active = 1u64;
     let mut row = 0;
-    for c in answer {
+    for (k, c) in answer.iter().enumerate() {
         let mut left = s.holders[*c as usize];
         let mut next = 0;
         while left != 0 {
@@ -448,7 +448,7 @@ fn mark_by<const LINKED: bool>(b: &Built, s: &Sets, numbers: &[[u8; 61]], answer
         active = next;
         row = 1 - row;
         if active == 0 {
-            return (0, 0);
+            return (0, 0, k + 1);
         }
     }
     let (mut n, mut m) = (0, i32::MIN);
@@ -460,11 +460,11 @@ fn mark_by<const LINKED: bool>(b: &Built, s: &Sets, numbers: &[[u8; 61]], answer
         m = m.max(best[row][u]);
     }
     // n is 0 where no last is possible
-    (n, if n == 0 { 0 } else { m })
+    (n, if n == 0 { 0 } else { m }, answer.len())
 }
 
-/// Marking by trying all pairs of positions at each letter, without sets.
-pub fn mark_all_pairs(text: &[u8], answer: &[u8]) -> Result<(u64, i32), u8> {
+/// Marking by trying all pairs of positions at each letter, without sets, and to the last letter, also where the answer went wrong before.
+pub fn mark_all_pairs(text: &[u8], answer: &[u8]) -> Result<(u64, i32, usize), u8> {
     let mut b = Built::new();
     accepted(text, answer, &mut b)?;
     let numbers = b.numbers();
@@ -483,6 +483,7 @@ pub fn mark_all_pairs(text: &[u8], answer: &[u8]) -> Result<(u64, i32), u8> {
     let mut best = [None::<i32>; 61];
     counts[0] = 1;
     best[0] = Some(0);
+    let mut along = 0; // letters after which some position is possible
     for c in answer {
         let held = &holds[*c as usize];
         let mut new_counts = [0u64; 61];
@@ -499,6 +500,7 @@ pub fn mark_all_pairs(text: &[u8], answer: &[u8]) -> Result<(u64, i32), u8> {
         }
         counts = new_counts;
         best = new_best;
+        along += usize::from(counts.iter().any(|n| *n > 0));
     }
     let (mut n, mut m) = (0, None);
     for u in 0..=b.positions {
@@ -507,7 +509,7 @@ pub fn mark_all_pairs(text: &[u8], answer: &[u8]) -> Result<(u64, i32), u8> {
             m = m.max(best[u]);
         }
     }
-    Ok((n, m.unwrap_or(0)))
+    Ok((n, m.unwrap_or(0), answer.len().min(along + 1)))
 }
 
 /// The search for a verdict: pairs unordered, breadth first, a queue with predecessors.

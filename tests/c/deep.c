@@ -19,6 +19,10 @@ static void refusal_is(const char *name, const uint8_t *pattern, size_t len, enu
         printf("%s: refusals %u and %u, want %u\n", name, v.refusal, m.refusal, want);
         failed = 1;
     }
+    if (m.taken != (want == MARKING_ACCEPTED ? 1u : 0u)) {
+        printf("%s: %u letters taken of 1\n", name, (unsigned)m.taken);
+        failed = 1;
+    }
 }
 
 /* A part in so many brackets, each with the same after it; the length. */

@@ -2,8 +2,8 @@
  * The memory that the calls may not touch: null with length 0 for every slice, memory that cannot be written behind every refused
  * call, null and memory that cannot even be read behind the count of a refused mark, and slices that end where memory ends. Touching
  * it is a crash, which is told with the name of the test. Besides, the first and the last letters and the codes beside them, and
- * marks on both sides of 0 and at both ends, bit by bit. The last line is 'N passed, M failed', and any failure makes the exit
- * status 1.
+ * marks on both sides of 0 and at both ends and letters taken, bit by bit. The last line is 'N passed, M failed', and any failure
+ * makes the exit status 1.
  */
 #define _DEFAULT_SOURCE /* MAP_ANONYMOUS */
 #include "marking.h"
@@ -55,6 +55,9 @@ static const uint8_t *at_the_end(const char *text, size_t n) {
     return page + 2 * PAGE - n;
 }
 
+/* What is returned for mark 0 after so many letters. */
+static uint64_t taken(uint64_t letters) { return letters << 40; }
+
 struct refused {
     const char *name;
     const uint8_t *pattern;
@@ -74,7 +77,8 @@ static void refused_marks(const struct refused *cases, size_t n) {
             running = c->name;
             uint64_t bits = marking_mark(c->pattern, c->pattern_len, c->answer, c->answer_len, counts[k]);
             struct marking_marked m = marking_mark_unpack(bits);
-            check(bits == (uint64_t)c->want << 32 && m.refusal == c->want && m.mark == 0 && *kept == UINT64_C(0x5a5a5a5a5a5a5a5a));
+            check(bits == (uint64_t)c->want << 32 && m.refusal == c->want && m.mark == 0 && m.taken == 0 &&
+                  *kept == UINT64_C(0x5a5a5a5a5a5a5a5a));
         }
 }
 
@@ -140,24 +144,33 @@ static void whole_slices(void) {
           MARKING_STEADY);
     running = "mark, slices at the end of memory";
     pattern = at_the_end(runaway, strlen(runaway));
-    check(marking_mark(pattern, strlen(runaway), answer, 7, count) == 0 && *count == 8);
+    check(marking_mark(pattern, strlen(runaway), answer, 7, count) == taken(7) && *count == 8);
     running = "mark, links, slices at the end of memory";
     pattern = at_the_end("((a*b?)*)*", 10);
     answer = at_the_end("aab", 3);
-    check(marking_mark(pattern, 10, answer, 3, count) == 0 && *count == 9);
+    check(marking_mark(pattern, 10, answer, 3, count) == taken(3) && *count == 9);
     running = "vet, an interval at the end of memory";
     pattern = at_the_end("(a{1,2}|b=1){15}", 16);
     check(marking_vet_unpack(marking_vet(pattern, 16, evidence, MARKING_EVIDENCE)).positions == 45);
     running = "mark, sixty copies, slices at the end of memory";
     pattern = at_the_end("(a*){60}", 8);
     answer = at_the_end("aaa", 3);
-    check(marking_mark(pattern, 8, answer, 3, count) == 0 && *count == 60 * 61 * 62 / 6);
+    check(marking_mark(pattern, 8, answer, 3, count) == taken(3) && *count == 60 * 61 * 62 / 6);
     running = "mark, copies with links, slices at the end of memory";
     pattern = at_the_end("((a*)*){60}", 11);
-    check(marking_mark(pattern, 11, answer, 3, count) == 0 && *count == 60 * 4 + 60 * 59 * 2 + 60 * 59 * 58 / 6);
+    check(marking_mark(pattern, 11, answer, 3, count) == taken(3) && *count == 60 * 4 + 60 * 59 * 2 + 60 * 59 * 58 / 6);
     running = "mark, one text as pattern and as answer";
     pattern = at_the_end("abc", 3);
-    check(marking_mark(pattern, 3, pattern, 3, count) == 0 && *count == 1);
+    check(marking_mark(pattern, 3, pattern, 3, count) == taken(3) && *count == 1);
+    running = "mark, a wrong answer at the end of memory";
+    answer = at_the_end("abx", 3);
+    check(marking_mark(pattern, 3, answer, 3, count) == taken(3) && *count == 0);
+    running = "mark, an answer at the end of memory that is wrong at its first letter";
+    answer = at_the_end("xabc", 4);
+    check(marking_mark(pattern, 3, answer, 4, count) == taken(1) && *count == 0);
+    running = "mark, an answer at the end of memory that ends too soon";
+    answer = at_the_end("ab", 2);
+    check(marking_mark(pattern, 3, answer, 2, count) == taken(2) && *count == 0);
 }
 
 /* The codes at both ends of the letters and of the gap between them: alone, in a class and in a range, and as an answer. */
@@ -185,9 +198,11 @@ static void edge_codes(void) {
             struct marking_marked m = marking_mark_unpack(marking_mark(patterns[k], lens[k], answer, 1, &count));
             check(v.refusal == as_pattern && v.positions == (codes[i].letter ? 1u : 0u));
             check(m.refusal == as_pattern && count == want);
+            check(m.taken == (codes[i].letter ? 1u : 0u));
         }
         uint64_t count = 7;
-        check(marking_mark_unpack(marking_mark(dot, 1, answer, 1, &count)).refusal == as_answer);
+        struct marking_marked m = marking_mark_unpack(marking_mark(dot, 1, answer, 1, &count));
+        check(m.refusal == as_answer && m.taken == (codes[i].letter ? 1u : 0u));
         check(count == (codes[i].letter ? 1 : 7));
     }
     running = "the texts shown, accented";
@@ -195,7 +210,7 @@ static void edge_codes(void) {
     check(marking_vet_unpack(marking_vet(steady, 10, evidence, MARKING_EVIDENCE)).text_len == 2 && memcmp(evidence, "\xe9\x62", 2) == 0);
 }
 
-/* Marks as the bits that are returned, which have nothing but the mark in them, and unpacked. */
+/* Marks as the bits that are returned, which have nothing but the mark and the letters taken in them, and unpacked. */
 static void signed_marks(void) {
     static char long_text[MARKING_ANSWER_MAX];
     memset(long_text, 'a', sizeof long_text);
@@ -204,22 +219,28 @@ static void signed_marks(void) {
         size_t answer_len;
         uint64_t bits, count;
         int32_t mark;
+        size_t taken;
     } cases[] = {
-        {"mark -1", "a=-1", 1, 0xffffffff, 1, -1},
-        {"mark -2", "a=-2", 1, 0xfffffffe, 1, -2},
-        {"mark 1", "a=1", 1, 1, 1, 1},
-        {"mark 3", "a=3", 1, 3, 1, 3},
-        {"mark -1, the better of two", "a=-2|a=-1", 1, 0xffffffff, 2, -1},
-        {"mark 0, one reading", "a=-1a=1", 2, 0, 1, 0},
-        {"mark 0, the empty answer", "a=-5*", 0, 0, 1, 0},
-        {"mark 0, no reading", "a=-5", 2, 0, 0, 0},
-        {"mark 0, no reading of the empty answer", "a=-5", 0, 0, 0, 0},
-        {"mark 0, no reading of the longest answer", "a=-9*b", MARKING_ANSWER_MAX, 0, 0, 0},
-        {"mark -36,864", "a=-9*", MARKING_ANSWER_MAX, 0xffff7000, 1, -36864},
-        {"mark 36,864", "a=9*", MARKING_ANSWER_MAX, 0x9000, 1, 36864},
-        {"mark -36,855", "a=-9*", MARKING_ANSWER_MAX - 1, 0xffff7009, 1, -36855},
-        {"mark -4,096 with the most readings", "(a=-1*)*", MARKING_ANSWER_MAX, 0xfffff000, MARKING_COUNT_MAX, -4096},
-        {"a hyphen after the credit", "a=-1-?", 1, 0xffffffff, 1, -1},
+        {"mark -1", "a=-1", 1, 0x100ffffffff, 1, -1, 1},
+        {"mark -2", "a=-2", 1, 0x100fffffffe, 1, -2, 1},
+        {"mark 1", "a=1", 1, 0x10000000001, 1, 1, 1},
+        {"mark 3", "a=3", 1, 0x10000000003, 1, 3, 1},
+        {"mark -1, the better of two", "a=-2|a=-1", 1, 0x100ffffffff, 2, -1, 1},
+        {"mark 0, one reading", "a=-1a=1", 2, 0x20000000000, 1, 0, 2},
+        {"mark 0, the empty answer", "a=-5*", 0, 0, 1, 0, 0},
+        {"mark 0, no reading", "a=-5", 2, 0x20000000000, 0, 0, 2},
+        {"mark 0, no reading after the second letter", "a=-5", 3, 0x20000000000, 0, 0, 2},
+        {"mark 0, no reading of the empty answer", "a=-5", 0, 0, 0, 0, 0},
+        {"mark 0, no reading of the longest answer", "a=-9*b", MARKING_ANSWER_MAX, 0x10000000000000, 0, 0, MARKING_ANSWER_MAX},
+        {"mark -36,864", "a=-9*", MARKING_ANSWER_MAX, 0x100000ffff7000, 1, -36864, MARKING_ANSWER_MAX},
+        {"mark 36,864", "a=9*", MARKING_ANSWER_MAX, 0x10000000009000, 1, 36864, MARKING_ANSWER_MAX},
+        {"mark -36,855", "a=-9*", MARKING_ANSWER_MAX - 1, 0x0fff00ffff7009, 1, -36855, MARKING_ANSWER_MAX - 1},
+        {"mark -4,096 with the most readings", "(a=-1*)*", MARKING_ANSWER_MAX, 0x100000fffff000, MARKING_COUNT_MAX, -4096,
+         MARKING_ANSWER_MAX},
+        {"a hyphen after the credit", "a=-1-?", 1, 0x100ffffffff, 1, -1, 1},
+        {"the longest answer, wrong at its first letter", "b=-9*", MARKING_ANSWER_MAX, 0x10000000000, 0, 0, 1},
+        {"the longest answer, wrong at letter 10", "a{9}b", MARKING_ANSWER_MAX, 0xa0000000000, 0, 0, 10},
+        {"the longest answer, wrong at letter 61", "a=-9{60}", MARKING_ANSWER_MAX, 0x3d0000000000, 0, 0, 61},
     };
     for (size_t i = 0; i < sizeof cases / sizeof cases[0]; i++) {
         size_t len = strlen(cases[i].pattern), n = cases[i].answer_len;
@@ -228,11 +249,14 @@ static void signed_marks(void) {
         uint64_t bits = marking_mark(at_the_end(cases[i].pattern, len), len, at_the_end(long_text, n), n, &count);
         struct marking_marked m = marking_mark_unpack(bits);
         check(bits == cases[i].bits && count == cases[i].count);
-        check(m.refusal == MARKING_ACCEPTED && m.mark == cases[i].mark);
+        check(m.refusal == MARKING_ACCEPTED && m.mark == cases[i].mark && m.taken == cases[i].taken);
     }
 }
 
-/* Numbers that no call returns, too: the lowest and the highest mark of 32 bits and those beside 0, with a refusal and without. */
+/*
+ * Numbers that no call returns, too: the lowest and the highest mark of 32 bits and those beside 0, with a refusal and without, and
+ * from no letter taken to as many as 16 bits can tell.
+ */
 static void unpacked_marks(void) {
     static const struct {
         uint64_t bits;
@@ -248,12 +272,14 @@ static void unpacked_marks(void) {
                  {0xfffffffe, -2},
                  {0xffffffff, -1}};
     static const unsigned refusals[] = {0, 3, 10, 127, 128, 255};
+    static const unsigned letters[] = {0, 1, 255, 256, 4095, 4096, 32768, 65535};
     running = "a mark unpacked";
     for (size_t i = 0; i < sizeof marks / sizeof marks[0]; i++)
-        for (size_t k = 0; k < sizeof refusals / sizeof refusals[0]; k++) {
-            struct marking_marked m = marking_mark_unpack((uint64_t)refusals[k] << 32 | marks[i].bits);
-            check(m.mark == marks[i].mark && (unsigned)m.refusal == refusals[k]);
-        }
+        for (size_t k = 0; k < sizeof refusals / sizeof refusals[0]; k++)
+            for (size_t n = 0; n < sizeof letters / sizeof letters[0]; n++) {
+                struct marking_marked m = marking_mark_unpack((uint64_t)refusals[k] << 32 | taken(letters[n]) | marks[i].bits);
+                check(m.mark == marks[i].mark && (unsigned)m.refusal == refusals[k] && m.taken == letters[n]);
+            }
 }
 
 int main(void) {
@@ -292,6 +318,8 @@ int main(void) {
         {"refusal 10", a, 1, at_the_end("a\t", 2), 2, MARKING_ANSWER_NO_LETTER},
         {"refusal 10, code 127", a, 1, at_the_end("a\x7f", 2), 2, MARKING_ANSWER_NO_LETTER},
         {"refusal 10, code 159", a, 1, at_the_end("a\x9f", 2), 2, MARKING_ANSWER_NO_LETTER},
+        {"refusal 9, wrong at the first letter", at_the_end("b", 1), 1, many, MARKING_ANSWER_MAX + 1, MARKING_ANSWER_TOO_LONG},
+        {"refusal 10, wrong at the first letter", at_the_end("b", 1), 1, at_the_end("aaa\t", 4), 4, MARKING_ANSWER_NO_LETTER},
     };
     setvbuf(stdout, NULL, _IONBF, 0);
     signal(SIGSEGV, crashed);
@@ -301,8 +329,8 @@ int main(void) {
     edge_codes();
     signed_marks();
     unpacked_marks();
-    refused_vets(cases, 24); /* the last six are of answers */
-    refused_marks(cases, 30);
+    refused_vets(cases, 24); /* the last eight are of answers */
+    refused_marks(cases, 32);
     printf("%d passed, %d failed\n", passed, failed);
     return failed != 0;
 }

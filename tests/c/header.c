@@ -33,7 +33,7 @@ static void refused(const char *name, const char *pattern, enum marking_refusal 
     struct marking_vetted v = vet(pattern);
     struct marking_marked m = marking_mark_unpack(marking_mark(bytes(pattern), strlen(pattern), bytes("a"), 1, &count));
     check(name, v.refusal == want && v.verdict == MARKING_NO_VERDICT && v.positions == 0 && v.text_len == 0);
-    check(name, m.refusal == want && m.mark == 0 && count == 7);
+    check(name, m.refusal == want && m.mark == 0 && m.taken == 0 && count == 7);
 }
 
 /* So many letters a. */
@@ -114,8 +114,10 @@ static void accents(void) {
     struct marking_vetted v = vet("caf\xe9");
     check("an accent", v.refusal == MARKING_ACCEPTED && v.verdict == MARKING_SINGLE && v.positions == 4);
     check("a class of the upper letters", vet("[^ -~]").refusal == MARKING_ACCEPTED && vet("[^ -~]").positions == 1);
-    check("an accent in the answer", marking_mark(bytes("caf[\xe8-\xea]=1"), 10, bytes("caf\xe9"), 4, &count) == 1 && count == 1);
-    check("the accent left out", marking_mark(bytes("caf\xe9"), 4, bytes("cafe"), 4, &count) == 0 && count == 0);
+    check("an accent in the answer",
+          marking_mark(bytes("caf[\xe8-\xea]=1"), 10, bytes("caf\xe9"), 4, &count) == (UINT64_C(4) << 40 | 1) && count == 1);
+    check("the accent left out", marking_mark(bytes("caf\xe9"), 4, bytes("cafe"), 4, &count) == UINT64_C(4) << 40 && count == 0);
+    check("the first accent left out", marking_mark(bytes("\xe9t\xe9"), 3, bytes("et\xe9"), 3, &count) == UINT64_C(1) << 40 && count == 0);
 }
 
 /* Points taken off: the mark is that of the best reading, and 0 where there is none. */
@@ -143,6 +145,53 @@ static void intervals(void) {
     check("two of three copies", mark("a=1{3}", 2, &count).mark == 0 && count == 0);
     check("two copies or more", mark("a=-1{2,}", 5, &count).mark == -5 && count == 1);
     check("two copies of a repeat", mark("(a*){2}", 2, &count).mark == 0 && count == 3);
+}
+
+/* An answer by its text, so many letters of which are taken, with so many readings; and the same as the bits that are returned. */
+static void takes(const char *name, const char *pattern, const char *answer, size_t taken, uint64_t want, int32_t earned) {
+    uint64_t count = 7;
+    uint64_t bits = marking_mark(bytes(pattern), strlen(pattern), bytes(answer), strlen(answer), &count);
+    struct marking_marked m = marking_mark_unpack(bits);
+    check(name, m.refusal == MARKING_ACCEPTED && m.taken == taken && m.mark == earned && count == want);
+    check(name, bits == ((uint64_t)taken << 40 | (uint32_t)earned));
+}
+
+/* Letters taken: up to and with the first at which no position is possible any more, all where there is none, none at a refusal. */
+static void letters_taken(void) {
+    char text[MARKING_ANSWER_MAX + 2];
+    uint64_t count = 7;
+    struct marking_marked m;
+    takes("all letters", "ab", "ab", 2, 1, 0);
+    takes("wrong at the first letter", "ab", "xab", 1, 0, 0);
+    takes("wrong in the middle", "ab", "axb", 2, 0, 0);
+    takes("wrong at the last letter", "ab", "ax", 2, 0, 0);
+    takes("a letter too many", "ab", "abc", 3, 0, 0);
+    takes("two letters too many", "ab", "abcd", 3, 0, 0);
+    takes("a letter too few", "ab", "a", 1, 0, 0);
+    takes("no letter, no reading", "ab", "", 0, 0, 0);
+    takes("no letter, one reading", "a*", "", 0, 1, 0);
+    takes("points off, all letters", "a=-2b=-3", "ab", 2, 1, -5);
+    takes("points off, and wrong", "a=-2b=-3", "aab", 2, 0, 0);
+    takes("links, and wrong", "(a*)*", "aabaa", 3, 0, 0);
+    takes("an interval, and a letter too many", "a{2,4}", "aaaaaa", 5, 0, 0);
+    takes("an accent, and wrong after it", "\xe9t\xe9", "\xe9te\xe9", 3, 0, 0);
+    strcpy(text, letters(MARKING_POSITIONS_MAX));
+    takes("sixty positions, a letter too many", text, letters(MARKING_POSITIONS_MAX + 2), MARKING_POSITIONS_MAX + 1, 0, 0);
+    strcpy(text, letters(MARKING_ANSWER_MAX));
+    takes("the longest answer, all letters", "a=9*", text, MARKING_ANSWER_MAX, 1, 9 * MARKING_ANSWER_MAX);
+    takes("the longest answer, no reading", "a=9*b", text, MARKING_ANSWER_MAX, 0, 0);
+    text[MARKING_ANSWER_MAX - 1] = 'b';
+    takes("the longest answer, wrong at the last letter", "a=-9*", text, MARKING_ANSWER_MAX, 0, 0);
+    text[MARKING_ANSWER_MAX - 2] = 'b';
+    takes("the longest answer, wrong at the last but one", "a=-9*", text, MARKING_ANSWER_MAX - 1, 0, 0);
+    text[9] = 'b';
+    takes("the longest answer, wrong at letter 10", "a=-9*", text, 10, 0, 0);
+    text[0] = 'b';
+    takes("the longest answer, wrong at the first letter", "a=-9*", text, 1, 0, 0);
+    m = mark("b", MARKING_ANSWER_MAX + 1, &count);
+    check("wrong, and refused for its length", m.refusal == MARKING_ANSWER_TOO_LONG && m.taken == 0 && m.mark == 0 && count == 7);
+    m = marking_mark_unpack(marking_mark(bytes("b"), 1, bytes("aa\t"), 3, &count));
+    check("wrong, and refused for a byte after it", m.refusal == MARKING_ANSWER_NO_LETTER && m.taken == 0 && m.mark == 0 && count == 7);
 }
 
 static void verdicts(void) {
@@ -173,15 +222,21 @@ static void fields(void) {
     check("bits 48 to 59, z", v.z_len == 4095 && v.x_len + v.y_len == 0 && v.text_len == 4095);
     v = marking_vet_unpack(UINT64_C(1) << 8 | UINT64_C(0xfff) << 24);
     check("bits 24 to 35, a steady text", v.verdict == MARKING_STEADY && v.x_len == 0 && v.text_len == 4095);
-    check("bits 0 to 31, the mark", m.mark == -1 && m.refusal == MARKING_ACCEPTED);
+    check("bits 0 to 31, the mark", m.mark == -1 && m.refusal == MARKING_ACCEPTED && m.taken == 0);
     m = marking_mark_unpack(UINT64_C(1) << 31);
-    check("bit 31, the lowest mark", m.mark == INT32_MIN && m.refusal == MARKING_ACCEPTED);
+    check("bit 31, the lowest mark", m.mark == INT32_MIN && m.refusal == MARKING_ACCEPTED && m.taken == 0);
     m = marking_mark_unpack(0x7fffffff);
-    check("bits 0 to 30, the highest mark", m.mark == INT32_MAX && m.refusal == MARKING_ACCEPTED);
+    check("bits 0 to 30, the highest mark", m.mark == INT32_MAX && m.refusal == MARKING_ACCEPTED && m.taken == 0);
     m = marking_mark_unpack(UINT64_C(0xff) << 32);
-    check("bits 32 to 39, the mark's refusal", m.mark == 0 && (unsigned)m.refusal == 255);
+    check("bits 32 to 39, the mark's refusal", m.mark == 0 && (unsigned)m.refusal == 255 && m.taken == 0);
     m = marking_mark_unpack(UINT64_C(0xffffffffff));
-    check("bits 0 to 39, the mark and its refusal", m.mark == -1 && (unsigned)m.refusal == 255);
+    check("bits 0 to 39, the mark and its refusal", m.mark == -1 && (unsigned)m.refusal == 255 && m.taken == 0);
+    m = marking_mark_unpack(UINT64_C(0xffff) << 40);
+    check("bits 40 to 55, the letters taken", m.mark == 0 && m.refusal == MARKING_ACCEPTED && m.taken == 65535);
+    m = marking_mark_unpack(UINT64_C(1) << 40);
+    check("bit 40, one letter taken", m.mark == 0 && m.refusal == MARKING_ACCEPTED && m.taken == 1);
+    m = marking_mark_unpack(UINT64_C(0xff) << 56);
+    check("bits 56 to 63, nothing", m.mark == 0 && m.refusal == MARKING_ACCEPTED && m.taken == 0);
 }
 
 static void version(void) {
@@ -196,6 +251,7 @@ int main(void) {
     accents();
     points_off();
     intervals();
+    letters_taken();
     verdicts();
     fields();
     version();

@@ -1,5 +1,5 @@
 /*
- * A program that must compile as it is, and with MIXED_UP from 1 to 6 must not: once unpacked, what vetting gives is not taken for
+ * A program that must compile as it is, and with MIXED_UP from 1 to 8 must not: once unpacked, what vetting gives is not taken for
  * what marking gives, nor the other way round.
  */
 #include "marking.h"
@@ -19,6 +19,10 @@ int main(void) {
     marked = marking_mark_unpack(vetted);
 #elif MIXED_UP == 6 /* a field straight from the bits */
     return (int)marking_mark_refusal(marking_vet(0, 0, 0, 0));
+#elif MIXED_UP == 7 /* letters taken from vet's struct */
+    return (int)vetted.taken;
+#elif MIXED_UP == 8 /* a length of vet's from marking's struct */
+    return (int)marked.text_len;
 #endif
-    return (int)vetted.refusal + (int)marked.refusal;
+    return (int)vetted.refusal + (int)marked.refusal + (int)marked.taken;
 }

@@ -40,5 +40,5 @@ pub record MarkSays (s a : List ℕ) (r : Marked) : Type 0 where
   -- from -36,864 to 36,864, 9 for each of 4,096 letters
   pub small : natAbs (r .mark) ≤ 36864
   pub taken : r .taken ≡ takenShown s a
-  -- as many as an answer may have
+  -- no more than an answer may have
   pub few : r .taken ≤ 4096

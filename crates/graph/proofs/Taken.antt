@@ -41,7 +41,7 @@ module _ (g : Graph) where
       let low = position-of g i (step-parts g u b i (h .0) .0) .1 in
       (w .0, any-true (step g u b) (λ j. leads g j s (w .0)) (suc (g .positions)) i (omega arith) (h .0) (w .1))
 
-  pub possible-state : (s : List ℕ) (v : ℕ) → possible g s v ≡ true → v ≤ g .positions
+  possible-state : (s : List ℕ) (v : ℕ) → possible g s v ≡ true → v ≤ g .positions
   possible-state s v = leads-state 0 s v zero-le
 
   -- ---- no state is possible, or some state is

@@ -16,7 +16,7 @@ leads g u (b ∷ s) v = anyIf (step g u b) (λ i. leads g i s v) (suc (g .positi
 abbrev pub possible : Graph → List ℕ → ℕ → Bool
 possible g s v = leads g 0 s v
 
--- no state is
+-- after them no state is possible
 abbrev pub dead : Graph → List ℕ → Bool
 dead g s = not (anyIf (possible g s) (λ v. true) (suc (g .positions)))
 

@@ -21,8 +21,8 @@ pub struct Marked {
     pub taken: u32,
 }
 
-// The number of readings of an answer, its mark and the letters taken. A byte that is no letter is held by no position. `more` is the table of the
-// links beyond the first; it is read only where `b.doubled` says that there is one.
+// The number of readings of an answer, its mark and the letters taken. A byte that is no letter is held by no position. `more` is the
+// table of the links beyond the first; it is read only where `b.doubled` says that there is one.
 pub fn mark(b: Built, more: &[u8], answer: &[u8]) -> Marked
     requires { ⌜ Bounded (graphOfBuilt b (now more)) × (b .doubled ≡ false → SingleLinks (graphOfBuilt b (now more))) × (length (now more) ≡ 3721) × (length (now answer) ≤ 4096) ⌝ }
     ensures { λ r. ⌜ (r .refusal ≡ 0) × Answered (graphOfBuilt b (now (more .entry))) (now (answer .entry)) (r .count) (r .mark) × (r .taken ≡ lettersTaken (graphOfBuilt b (now (more .entry))) (now (answer .entry))) ⌝ }

@@ -16,7 +16,7 @@ pub enum Vetted {
 #[derive(Clone, Copy, Debug, PartialEq, Eq)]
 pub enum Marked {
     Refused(u8),
-    Answer { count: u64, mark: i32 },
+    Answer { count: u64, mark: i32, taken: usize },
 }
 
 const GUARD: usize = 64;
@@ -90,8 +90,8 @@ pub fn mark(pattern: &[u8], answer: &[u8]) -> Result<Marked, String> {
         return Err("memory beside the count changed".into());
     }
     let refusal = ((r >> 32) & 0xff) as u8;
-    if r >> 40 != 0 {
-        return Err(format!("bits 40 and up are set: {r:#x}"));
+    if r >> 56 != 0 {
+        return Err(format!("bits 56 and up are set: {r:#x}"));
     }
     if refusal != 0 {
         if guarded[1] != old {
@@ -100,7 +100,22 @@ pub fn mark(pattern: &[u8], answer: &[u8]) -> Result<Marked, String> {
         if r & 0xffff_ffff != 0 {
             return Err(format!("a refusal with a mark: {r:#x}"));
         }
+        if r >> 40 != 0 {
+            return Err(format!("a refusal with letters taken: {r:#x}"));
+        }
         return Ok(Marked::Refused(refusal));
     }
-    Ok(Marked::Answer { count: guarded[1], mark: r as u32 as i32 })
+    let (count, taken) = (guarded[1], (r >> 40) as usize);
+    if taken > answer.len() {
+        return Err(format!("{taken} letters taken of {}", answer.len()));
+    }
+    if taken < answer.len() && count > 0 {
+        return Err(format!("{taken} letters taken of {}, and {count} readings", answer.len()));
+    }
+    Ok(Marked::Answer { count, mark: r as u32 as i32, taken })
+}
+
+/// The number that the call returns, as it is.
+pub fn mark_bits(pattern: &[u8], answer: &[u8]) -> u64 {
+    unsafe { marking_mark(pattern.as_ptr(), pattern.len(), answer.as_ptr(), answer.len(), &mut 0) }
 }

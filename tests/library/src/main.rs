@@ -1,8 +1,8 @@
 //! Tests of the library against the rules: specimens, every byte in patterns and in answers, French and Spanish texts, points taken
 //! off, every byte in a credit, intervals with every bound and every byte in them and beside the same patterns written out, edges of every
-//! refusal, the last positions and the first past them, links by the hundred and counts at 2^63 by links, answers short and long, calls
-//! one after another, lent scratch, threads, what the pages claim, and random patterns and answers against an independent model. The last
-//! line is 'N passed, M failed'. Arguments: how many random patterns, and a seed.
+//! refusal, the last positions and the first past them, links by the hundred and counts at 2^63 by links, answers short and long, where
+//! an answer goes wrong, calls one after another, lent scratch, threads, what the pages claim, and random patterns and answers against an
+//! independent model. The last line is 'N passed, M failed'. Arguments: how many random patterns, and a seed.
 
 mod library;
 mod model;
@@ -10,12 +10,15 @@ mod pages;
 mod posix;
 mod random;
 
-use library::{mark, vet, vet_in, Marked, Vetted};
+use library::{mark, mark_bits, vet, vet_in, Marked, Vetted};
 use random::Random;
+use std::collections::BTreeSet;
 
 struct Tally {
     passed: u64,
     failed: u64,
+    /// how many random answers went wrong at the first letter, between the first and the last, at the last, and nowhere
+    wrong: [usize; 4],
 }
 
 impl Tally {
@@ -28,6 +31,29 @@ impl Tally {
                 println!("FAILED: {}", what());
             }
         }
+    }
+
+    /// Notes where a random answer goes wrong, unless it is empty or refused.
+    fn note(&mut self, p: &model::Pattern, answer: &[u8]) {
+        if answer.is_empty() || answer.iter().any(|b| !model::is_letter(*b)) {
+            return;
+        }
+        let along = p.along(answer);
+        let class = match answer.len() {
+            n if n == along => 3,
+            _ if along == 0 => 0,
+            n if n == along + 1 => 2,
+            _ => 1,
+        };
+        self.wrong[class] += 1;
+    }
+
+    /// Each kind came often enough since the last time, for so many patterns.
+    fn noted(&mut self, patterns: usize, what: &str) {
+        let wrong = std::mem::take(&mut self.wrong);
+        let least = (patterns / 20).saturating_sub(5);
+        println!("{what}: wrong at the first letter {}, between {}, at the last {}, nowhere {}", wrong[0], wrong[1], wrong[2], wrong[3]);
+        self.check(wrong.iter().all(|n| *n >= least), || format!("{what}: too few answers of a kind, {wrong:?}"));
     }
 
     fn same<T: PartialEq + std::fmt::Debug>(&mut self, got: T, want: T, what: &str) {
@@ -62,8 +88,15 @@ fn verdict_is(t: &mut Tally, pattern: &[u8], verdict: u8) {
 }
 
 fn marks(t: &mut Tally, pattern: &[u8], answer: &[u8], count: u64, best: i32) {
+    match model::read(pattern) {
+        Ok(p) => marks_and_takes(t, pattern, answer, count, best, p.taken(answer)),
+        Err(refusal) => t.check(false, || format!("the model refuses {}: {refusal}", show(pattern))),
+    }
+}
+
+fn marks_and_takes(t: &mut Tally, pattern: &[u8], answer: &[u8], count: u64, best: i32, taken: usize) {
     let name = format!("mark {} on {} letters {}", show(pattern), answer.len(), show(&answer[..answer.len().min(20)]));
-    t.same(mark(pattern, answer), Ok(Marked::Answer { count, mark: best }), &name);
+    t.same(mark(pattern, answer), Ok(Marked::Answer { count, mark: best, taken }), &name);
 }
 
 /// What a verdict shows, checked by counting readings in the model.
@@ -243,7 +276,7 @@ fn counts_by_links(t: &mut Tally) {
 /// The one-letter answers that the pattern reads are these, of all 191.
 fn reads_exactly(t: &mut Tally, pattern: &[u8], want: impl IntoIterator<Item = u8>) {
     let want: Vec<u8> = want.into_iter().collect();
-    let as_wanted = |b: u8| mark(pattern, &[b]) == Ok(Marked::Answer { count: u64::from(want.contains(&b)), mark: 0 });
+    let as_wanted = |b: u8| mark(pattern, &[b]) == Ok(Marked::Answer { count: u64::from(want.contains(&b)), mark: 0, taken: 1 });
     let wrong: Vec<u8> = model::letters().filter(|b| !as_wanted(*b)).collect();
     t.check(wrong.is_empty(), || format!("mark {}: wrong on {}", show(pattern), show(&wrong)));
 }
@@ -332,7 +365,7 @@ fn french_and_spanish(t: &mut Tally) {
             }
         }
         for pattern in [&b"a.b"[..], b"a[^a]b", b"a([ -~]|[^ -~])b", b"a[ -\xff]b", b".*"] {
-            let want = if letter { Marked::Answer { count: 1, mark: 0 } } else { Marked::Refused(10) };
+            let want = if letter { Marked::Answer { count: 1, mark: 0, taken: 3 } } else { Marked::Refused(10) };
             t.same(mark(pattern, &[b'a', b, b'b']), Ok(want), &format!("mark {} with byte {b} in the answer", show(pattern)));
         }
     }
@@ -1175,6 +1208,262 @@ fn written_by_hand(t: &mut Tally) {
     }
 }
 
+/// How many letters are taken: up to and with the first at which no position is possible any more, all where there is none.
+fn letters_taken(t: &mut Tally) {
+    let short: [(&[u8], &[u8], u64, i32, usize); 93] = [
+        // at the first letter, in the middle, at the last, never
+        (b"ab", b"", 0, 0, 0),
+        (b"ab", b"a", 0, 0, 1),
+        (b"ab", b"ab", 1, 0, 2),
+        (b"ab", b"x", 0, 0, 1),
+        (b"ab", b"b", 0, 0, 1),
+        (b"ab", b"xab", 0, 0, 1),
+        (b"ab", b"xxxxxxxx", 0, 0, 1),
+        (b"ab", b"ax", 0, 0, 2),
+        (b"ab", b"axb", 0, 0, 2),
+        (b"ab", b"axxxxxxx", 0, 0, 2),
+        (b"ab", b"abc", 0, 0, 3),
+        (b"ab", b"abcd", 0, 0, 3),
+        (b"ab", b"abab", 0, 0, 3),
+        (b"colou?r", b"colur", 0, 0, 4),
+        (b"colou?r", b"colors", 0, 0, 6),
+        (b"colou?r", b"colo", 0, 0, 4),
+        (b"colou?r", b"colouur", 0, 0, 6),
+        (b"(le|la) chat", b"un chat", 0, 0, 1),
+        (b"(le|la) chat", b"lu chat", 0, 0, 2),
+        (b"(le|la) chat", b"le chien", 0, 0, 6),
+        (b"(le|la) chat", b"la cha", 0, 0, 6),
+        // a branch goes on where another ends, and none does at the next letter
+        (b"abc|ad", b"abd", 0, 0, 3),
+        (b"abc|ad", b"adc", 0, 0, 3),
+        (b"abc|ad", b"acd", 0, 0, 2),
+        (b"abc|ad", b"abcc", 0, 0, 4),
+        (b"abc|ad", b"abccc", 0, 0, 4),
+        (b"(a|b|ab)*c", b"ababd", 0, 0, 5),
+        (b"(a|b|ab)*c", b"ababda", 0, 0, 5),
+        (b"(a|b|ab)*c", b"abcab", 0, 0, 4),
+        (b"(a|b|ab)*c", b"ababab", 0, 0, 6),
+        (b".", b"ab", 0, 0, 2),
+        (b".", b"abc", 0, 0, 2),
+        (b".*", b"abc~ ", 1, 0, 5),
+        (b".*a", b"abc~ ", 0, 0, 5),
+        (b"[^a]*", b"bca", 0, 0, 3),
+        (b"[^a]*", b"bcab", 0, 0, 3),
+        // the empty answer, where the pattern can be empty and where not
+        (b"a*", b"", 1, 0, 0),
+        (b"a?", b"", 1, 0, 0),
+        (b"(a*)*", b"", 1, 0, 0),
+        (b"a{0,3}", b"", 1, 0, 0),
+        (b"a", b"", 0, 0, 0),
+        (b"a+", b"", 0, 0, 0),
+        (b"a{2,4}", b"", 0, 0, 0),
+        // a pattern that can be empty does not read a wrong letter
+        (b"a?", b"b", 0, 0, 1),
+        (b"a*", b"bb", 0, 0, 1),
+        (b"a?", b"aa", 0, 0, 2),
+        (b"a?", b"aaa", 0, 0, 2),
+        (b"(a?)*", b"aab", 0, 0, 3),
+        // doubled links
+        (b"(a*)*", b"aaa", 4, 0, 3),
+        (b"(a*)*", b"b", 0, 0, 1),
+        (b"(a*)*", b"aab", 0, 0, 3),
+        (b"(a*)*", b"aabaa", 0, 0, 3),
+        (b"((a*)*)*", b"abaa", 0, 0, 2),
+        (b"(a*b?)*", b"aabbc", 0, 0, 5),
+        (b"(a*b?)*", b"aacbb", 0, 0, 3),
+        (b"([a-z]+ ?)+", b"go on", 4, 0, 5),
+        (b"([a-z]+ ?)+", b"go  on", 0, 0, 4),
+        (b"([a-z]+ ?)+", b"go 1n", 0, 0, 4),
+        (b"((ab)*)*", b"ababb", 0, 0, 5),
+        (b"((ab)*)*", b"ababba", 0, 0, 5),
+        (b"((ab)*)*", b"ababa", 0, 0, 5),
+        // intervals
+        (b"a{2,4}", b"a", 0, 0, 1),
+        (b"a{2,4}", b"aa", 1, 0, 2),
+        (b"a{2,4}", b"aaaa", 1, 0, 4),
+        (b"a{2,4}", b"aaaaa", 0, 0, 5),
+        (b"a{2,4}", b"aaaaaa", 0, 0, 5),
+        (b"a{2,4}", b"aba", 0, 0, 2),
+        (b"a{2,4}", b"aaab", 0, 0, 4),
+        (b"a{2,}", b"aaaaab", 0, 0, 6),
+        (b"a{3}", b"aaaaaaaa", 0, 0, 4),
+        (b"(a|b){2}", b"abba", 0, 0, 3),
+        (b"(a*){2}", b"aaba", 0, 0, 3),
+        (b"(a{1,2}b){2}", b"aabaaab", 0, 0, 6),
+        (b"[0-9]{2}/[0-9]{2}/[0-9]{4}", b"7/9/1984", 0, 0, 2),
+        (b"[0-9]{2}/[0-9]{2}/[0-9]{4}", b"07/09/84", 0, 0, 8),
+        (b"[0-9]{2}/[0-9]{2}/[0-9]{4}", b"07.09.1984", 0, 0, 3),
+        (b"[0-9]{2}/[0-9]{2}/[0-9]{4}", b"07/09/19841", 0, 0, 11),
+        // letters with accents, and the codes at the edges
+        (b"\xe9t\xe9", b"\xe9t\xe9", 1, 0, 3),
+        (b"\xe9t\xe9", b"ete", 0, 0, 1),
+        (b"\xe9t\xe9", b"\xe9te", 0, 0, 3),
+        (b"\xe9t\xe9", b"\xe9te\xe9", 0, 0, 3),
+        (b"\xe9t\xe9", b"\xe9t\xe9\xe9\xe9", 0, 0, 4),
+        (b"[\xe0-\xff]*", b"\xe0\xff\xdf\xe0", 0, 0, 3),
+        (b"[^ -~]*", b"\xa0\xff~\xa0", 0, 0, 3),
+        (b"[ -~]*", b" ~\xa0~", 0, 0, 3),
+        // credits of both signs
+        (b"a=-2", b"a", 1, -2, 1),
+        (b"a=-2", b"ab", 0, 0, 2),
+        (b"a=-2", b"aab", 0, 0, 2),
+        (b"a=-2b=-3", b"a", 0, 0, 1),
+        (b"(a=-1|a=1)*", b"aab", 0, 0, 3),
+        (b"(a=-1|a=1)*", b"aabaa", 0, 0, 3),
+        (b"(a=-9|b=9)*", b"abc", 0, 0, 3),
+        (b"(a=-9|b=9)*", b"cab", 0, 0, 1),
+    ];
+    for (pattern, answer, count, best, taken) in short {
+        marks_and_takes(t, pattern, answer, count, best, taken);
+        earns(t, pattern, answer, count, best);
+        let bits = u64::from(best as u32) | (taken as u64) << 40;
+        t.same(mark_bits(pattern, answer), bits, &format!("mark {} on {}, the bits", show(pattern), show(answer)));
+    }
+    // 4,096 letters: wrong at one of them, or at none
+    let sixty = [b"(", &[b'a'; 60][..], b")*"].concat();
+    let alternatives = [b"(", &["a"; 60].join("|").into_bytes()[..], b")*"].concat();
+    let copies = &b"(a=-1{60})*"[..];
+    let long = [&b"a*"[..], b"(a*)*", b"((a+)+)+", b"(a|a)*", b"a=-9*", b"(a=9|a=-9)*", b"a{30,}", b"[^b]*", b"[a\xe9]*", &sixty, copies, &alternatives];
+    for pattern in long {
+        for at in [1, 2, 10, 59, 60, 61, 62, 255, 256, 257, 2048, 4094, 4095, 4096] {
+            for (length, wrong) in [(4096, b'b'), (4096, 160), (at, b'b')] {
+                let mut answer = vec![b'a'; length];
+                answer[at - 1] = wrong;
+                if pattern == b"[^b]*" {
+                    answer[at - 1] = b'b';
+                }
+                marks_and_takes(t, pattern, &answer, 0, 0, at);
+                // and what stands after it plays no part
+                answer[at..].fill(b'~');
+                marks_and_takes(t, pattern, &answer, 0, 0, at);
+            }
+        }
+        let got = mark(pattern, &[b'a'; 4096]);
+        let all = matches!(got, Ok(Marked::Answer { taken: 4096, .. }));
+        t.check(all, || format!("mark {} on 4,096 letters: {got:?}, want all taken", show(pattern)));
+    }
+    marks_and_takes(t, b"a=-9*", &[b'a'; 4096], 1, -36_864, 4096);
+    marks_and_takes(t, b"a=9*b", &[b'a'; 4096], 0, 0, 4096);
+    t.same(mark_bits(b"a=-9*", &[b'a'; 4096]), 0x1000_00_ffff_7000, "the lowest mark and the most letters taken, the bits");
+    t.same(mark_bits(b"a=9*b", &[b'a'; 4096]), 0x1000_00_0000_0000, "no reading and the most letters taken, the bits");
+    // 60 positions, one after the other
+    for pattern in [&[b'a'; 60][..], b"a{60}", b"a{30}a{30}", b"a=-9{60}"] {
+        for (n, taken) in [(0, 0), (1, 1), (59, 59), (61, 61), (62, 61), (63, 61), (4096, 61)] {
+            marks_and_takes(t, pattern, &vec![b'a'; n], 0, 0, taken);
+        }
+        for at in [1, 2, 30, 59, 60] {
+            let mut answer = vec![b'a'; 60];
+            answer[at - 1] = b'b';
+            marks_and_takes(t, pattern, &answer, 0, 0, at);
+        }
+        t.check(matches!(mark(pattern, &[b'a'; 60]), Ok(Marked::Answer { count: 1, taken: 60, .. })), || format!("mark {}: sixty", show(pattern)));
+    }
+    // each of 60 is the only one possible, and then none
+    let different: Vec<u8> = (b'A'..=b'Z').chain(b'a'..=b'z').chain(b'0'..=b'7').collect();
+    for n in 0..60 {
+        marks_and_takes(t, &different, &different[..n], 0, 0, n);
+        marks_and_takes(t, &different, &[&different[..n], b"~"].concat(), 0, 0, n + 1);
+        marks_and_takes(t, &different, &[&different[..n], b"~", &different[n..]].concat(), 0, 0, n + 1);
+        marks_and_takes(t, &different, &[&different[..n], &different[n + 1..]].concat(), 0, 0, if n == 59 { 59 } else { n + 1 });
+    }
+    // refused, some of them for what stands after the letter at which they go wrong: nothing but the refusal
+    let long = |n: usize| vec![b'a'; n];
+    let refused: [(&[u8], Vec<u8>, u8); 17] = [
+        (b"a)", b"a".to_vec(), 5),
+        (b"", b"a".to_vec(), 5),
+        (b"", b"".to_vec(), 5),
+        (b"a\t", b"a".to_vec(), 4),
+        (b"[z-a]", b"a".to_vec(), 6),
+        (b"[^ -\xff]", b"a".to_vec(), 7),
+        (b"a{0}", b"a".to_vec(), 11),
+        (b"a{61}", long(61), 8),
+        (&[b'a'; 513], long(4096), 3),
+        (b"a*", long(4097), 9),
+        (b"b*", long(4097), 9),
+        (b"a", long(5000), 9),
+        (b"a*", b"aa\n".to_vec(), 10),
+        (b"b", b"aa\n".to_vec(), 10),
+        (b"b", b"\x9f".to_vec(), 10),
+        (b"b", [&long(4095)[..], b"\x7f"].concat(), 10),
+        (b"a=-1*", [b"\x00", &long(4095)[..]].concat(), 10),
+    ];
+    for (pattern, answer, refusal) in refused {
+        let name = format!("mark {} on {} letters", show(&pattern[..pattern.len().min(20)]), answer.len());
+        t.same(mark(pattern, &answer), Ok(Marked::Refused(refusal)), &name);
+        t.same(mark_bits(pattern, &answer), u64::from(refusal) << 32, &format!("{name}, the bits"));
+    }
+}
+
+/// The letters taken are the shortest beginning of an answer with which no text of the pattern begins, else all of it: for every answer of
+/// up to four of these letters, beside a list of the pattern's texts. What a text begins with is all of it in fewer letters more than there
+/// are positions, so that the list is long enough.
+fn as_texts_begin(t: &mut Tally, text: &[u8], p: &model::Pattern, letters: &[u8]) {
+    let mut answers: Vec<Vec<u8>> = vec![Vec::new()];
+    let mut from = 0;
+    while answers.last().is_some_and(|a| a.len() < 4) {
+        let longer: Vec<Vec<u8>> = answers[from..].iter().flat_map(|a| letters.iter().map(move |b| [&a[..], &[*b]].concat())).collect();
+        from = answers.len();
+        answers.extend(longer);
+    }
+    let texts = p.texts(letters, 4 + p.positions.len());
+    let begins: BTreeSet<&[u8]> = texts.iter().flat_map(|s| (0..=s.len()).map(|n| &s[..n])).collect();
+    for answer in &answers {
+        let want = (0..answer.len()).find(|n| !begins.contains(&answer[..*n])).unwrap_or(answer.len());
+        let read = texts.contains(answer);
+        let got = mark(text, answer);
+        let right = matches!(got, Ok(Marked::Answer { count, taken, .. }) if taken == want && (count > 0) == read);
+        t.check(right, || format!("mark {} on {}: {got:?}; by its texts {want} letters are taken", show(text), show(answer)));
+    }
+}
+
+fn beginnings(t: &mut Tally, patterns: usize, seed: u64) {
+    let short: [(&[u8], &[u8]); 26] = [
+        (b"ab", b"abx"),
+        (b"abc", b"abc"),
+        (b"a|bc", b"abc"),
+        (b"abc|ab|b", b"abc"),
+        (b"a?b", b"abc"),
+        (b"a?b?", b"abc"),
+        (b"(a|b)*c", b"abc"),
+        (b"(ab)*", b"ab"),
+        (b"(ab|a)*", b"abc"),
+        (b"(a*)*", b"ab"),
+        (b"(a*b)*", b"abc"),
+        (b"((a+)+b?)+", b"abc"),
+        (b"a{2,4}", b"ab"),
+        (b"a{2}b", b"ab"),
+        (b"(a|b){2}", b"abc"),
+        (b"(ab?){2}", b"abc"),
+        (b"(a?){3}", b"ab"),
+        (b"a{2,}", b"ab"),
+        (b"(a{1,2}b)*", b"ab"),
+        (b"[^a]a", b"abc"),
+        (b".a", b"abc"),
+        (b"[ab]=-1[bc]=2", b"abc"),
+        (b"(a=-1|a=1)b", b"abc"),
+        (b"\xe9t?\xe9", b"\xe9te"),
+        (b"(\xe9|[\xe0-\xff])*e", b"\xe9e\xff"),
+        (b"[^ -~]+a", b"a\xa0\xff"),
+    ];
+    for (pattern, letters) in short {
+        as_texts_begin(t, pattern, &model::read(pattern).expect("a good pattern"), letters);
+    }
+    let mut r = Random::new(seed ^ 0xbe61);
+    let mut found = 0;
+    for _ in 0..patterns {
+        let text = random::pattern(&mut r, false);
+        let letters = if r.chance(50) { b"abc" } else { b"ab\xe9" };
+        let Ok(p) = model::read(&text) else { continue };
+        // each position has one of the letters, so that the texts are not cut off
+        if p.positions.len() <= 4 && p.positions.iter().all(|i| letters.iter().any(|b| i.letters.contains(b))) {
+            as_texts_begin(t, &text, &p, letters);
+            found += 1;
+        }
+    }
+    println!("random patterns beside their texts: {found}");
+    t.check(found >= patterns / 10, || format!("only {found} patterns of {patterns} beside their texts"));
+}
+
 /// Both sides of each refusal's edge, and the order in which they are checked.
 fn edges(t: &mut Tally) {
     let long = |n: usize, tail: &[u8]| [&vec![b'a'; n][..], tail].concat();
@@ -1283,7 +1572,7 @@ fn some_256_letters(t: &mut Tally) {
     for b in 0..=255u8 {
         for n in [255, 256] {
             let answer = [&vec![b' '; n - 1][..], &[b]].concat();
-            let want = if model::is_letter(b) { Marked::Answer { count: 1, mark: 0 } } else { Marked::Refused(10) };
+            let want = if model::is_letter(b) { Marked::Answer { count: 1, mark: 0, taken: n } } else { Marked::Refused(10) };
             t.same(mark(b".*", &answer), Ok(want), &format!("byte {b} after {} spaces", n - 1));
         }
     }
@@ -1359,6 +1648,7 @@ fn random_cases(t: &mut Tally, patterns: usize, seed: u64) {
         let text = random::pattern(&mut r, wild);
         one_random_case(t, &mut r, &text, k % 50 == 0);
     }
+    t.noted(patterns, "random answers");
 }
 
 /// A random pattern, with some answers, against the model; `vetted`: the verdict too, though there are many positions.
@@ -1377,9 +1667,11 @@ fn one_random_case(t: &mut Tally, r: &mut Random, text: &[u8], vetted: bool) {
                 evidence(t, text, &p, p.verdict());
             }
             let regex = second_opinion(t, text, &p);
-            let answers: Vec<Vec<u8>> = (0..3).map(|_| random::answer(r, &p)).collect();
+            let mut answers: Vec<Vec<u8>> = (0..3).map(|_| random::answer(r, &p)).collect();
+            answers.push(random::damaged(r, &answers[0]));
             for answer in &answers {
                 as_in_model(t, text, &p, answer, regex.as_ref());
+                t.note(&p, answer);
             }
             without_credits(t, text, &p.without_credits(text), &answers);
             let plain = model::written_out(text, WRITTEN).expect("not so long");
@@ -1397,6 +1689,7 @@ fn random_copies(t: &mut Tally, patterns: usize, seed: u64) {
         let text = random::copies(&mut r);
         one_random_case(t, &mut r, &text, k % 50 == 0);
     }
+    t.noted(patterns, "random copies");
 }
 
 /// Repeats in repeats, and answers of many rounds: counts that pass 2^63 by sums and by links, and marks.
@@ -1410,14 +1703,18 @@ fn random_rounds(t: &mut Tally, patterns: usize, seed: u64) {
                 let regex = second_opinion(t, &text, &p);
                 for letters in [4, 40, 120] {
                     let answer = random::long_answer(&mut r, &p, letters);
-                    as_in_model(t, &text, &p, &answer, regex.as_ref().filter(|_| letters == 4));
+                    for answer in [random::damaged(&mut r, &answer), answer] {
+                        as_in_model(t, &text, &p, &answer, regex.as_ref().filter(|_| letters == 4));
+                        t.note(&p, &answer);
+                    }
                 }
             }
         }
     }
+    t.noted(patterns, "random rounds");
 }
 
-/// The count and the mark of an answer, or its refusal, are the model's.
+/// The count, the mark and the letters taken of an answer, or its refusal, are the model's.
 fn as_in_model(t: &mut Tally, text: &[u8], p: &model::Pattern, answer: &[u8], regex: Option<&posix::Regex>) {
     let got = mark(text, answer);
     let name = || format!("mark {} on {}: {got:?}", show(text), show(answer));
@@ -1425,7 +1722,7 @@ fn as_in_model(t: &mut Tally, text: &[u8], p: &model::Pattern, answer: &[u8], re
         t.check(got == Ok(Marked::Refused(10)), name);
         return;
     }
-    let Ok(Marked::Answer { count, mark }) = got else {
+    let Ok(Marked::Answer { count, mark, taken }) = got else {
         t.check(false, name);
         return;
     };
@@ -1438,20 +1735,25 @@ fn as_in_model(t: &mut Tally, text: &[u8], p: &model::Pattern, answer: &[u8], re
     if answer.len() <= 24 {
         let ways = p.ways(answer, u128::from(MOST));
         t.check(u128::from(count) == ways, || format!("{}; {ways} ways through the tree", name()));
+        if let Some(want) = p.taken_by_lists(answer, 500) {
+            t.check(taken == want, || format!("{}; want {want} letters taken", name()));
+        }
     }
     let want = p.from_the_end(answer, u128::from(MOST));
     t.check(has(want), || format!("{}; want {want:?}", name()));
+    t.check(taken == p.taken(answer), || format!("{}; want {} letters taken", name(), p.taken(answer)));
     if let Some(x) = regex {
         t.check((count > 0) == x.matches(answer), || format!("{}; regexec says {}", name(), x.matches(answer)));
     }
 }
 
-/// Credits play no part in a verdict, in what it shows, or in a count: these are as without them, where every mark is 0.
+/// Credits play no part in a verdict, in what it shows, in a count, or in the letters taken: these are as without them, where every mark
+/// is 0.
 fn without_credits(t: &mut Tally, text: &[u8], plain: &[u8], answers: &[Vec<u8>]) {
     t.same(vet(text, EVIDENCE, 2), vet(plain, EVIDENCE, 2), &format!("vet {}, as {}", show(text), show(plain)));
     for answer in answers {
         let got = mark(text, answer).map(|m| match m {
-            Marked::Answer { count, .. } => Marked::Answer { count, mark: 0 },
+            Marked::Answer { count, taken, .. } => Marked::Answer { count, mark: 0, taken },
             refused => refused,
         });
         t.same(got, mark(plain, answer), &format!("the count of {} on {}, as {}", show(text), show(answer), show(plain)));
@@ -1462,7 +1764,7 @@ fn main() {
     let args: Vec<String> = std::env::args().collect();
     let patterns = args.get(1).map_or(20_000, |a| a.parse().expect("how many patterns"));
     let seed = args.get(2).map_or(1, |a| a.parse().expect("a seed"));
-    let mut t = Tally { passed: 0, failed: 0 };
+    let mut t = Tally { passed: 0, failed: 0, wrong: [0; 4] };
     specimens(&mut t);
     every_byte(&mut t);
     french_and_spanish(&mut t);
@@ -1479,6 +1781,8 @@ fn main() {
     copies_by_regexec(&mut t);
     many_links(&mut t);
     counts_by_links(&mut t);
+    letters_taken(&mut t);
+    beginnings(&mut t, patterns / 5, seed);
     edges(&mut t);
     last_positions(&mut t);
     some_256_letters(&mut t);

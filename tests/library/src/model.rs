@@ -1,8 +1,9 @@
 //! The rules once more, written from docs/RULES.md and from nothing else: patterns are parsed into a tree, in which an interval
 //! stands as it is written, and copied from there into a tree without intervals, whose letters are the positions. These get their sets
 //! by plain sets of numbers, links are counted in a table, readings are enumerated one by one, and the verdict is decided by strongly
-//! connected components. Ways through the tree as it is written, which know neither positions nor copies, are counted besides, and a
-//! pattern's intervals can be written out as text. Nothing here is shared with the program under test, neither code nor idea.
+//! connected components. Ways through the tree as it is written, which know neither positions nor copies, are counted besides, short
+//! texts of a pattern are listed from that tree, and a pattern's intervals can be written out as text. How many letters of an answer are
+//! taken is found from its end. Nothing here is shared with the program under test, neither code nor idea.
 
 use std::collections::{BTreeSet, HashSet};
 use std::ops::Range;
@@ -49,6 +50,9 @@ pub struct Pattern {
 pub type Links = Vec<Vec<u64>>;
 
 type Table = Vec<Vec<u128>>;
+
+/// Entry n: texts of n letters.
+type Texts = Vec<BTreeSet<Vec<u8>>>;
 
 /// A reading's step: the position, and which of the links from the position before leads there. They are numbered from 0, and so
 /// is the one that leads to a first.
@@ -459,10 +463,10 @@ impl Pattern {
         (1..=self.positions.len()).flat_map(|position| (0..links(position)).map(move |link| Step { position, link })).collect()
     }
 
-    /// All readings, one by one, as long as there are no more than `most`.
-    pub fn readings(&self, answer: &[u8], most: usize) -> Option<Vec<Vec<Step>>> {
+    /// All lists of steps that go along with the letters, from a first on, wherever they end, as long as there are no more than `most`.
+    fn lists(&self, letters: &[u8], most: usize) -> Option<Vec<Vec<Step>>> {
         let mut lists: Vec<Vec<Step>> = vec![Vec::new()];
-        for b in answer {
+        for b in letters {
             let mut longer = Vec::new();
             for list in &lists {
                 for step in self.next_steps(list).into_iter().filter(|s| self.holds(s.position, *b)) {
@@ -474,8 +478,44 @@ impl Pattern {
             }
             lists = longer;
         }
+        Some(lists)
+    }
+
+    /// All readings, one by one, as long as there are no more than `most` lists.
+    pub fn readings(&self, answer: &[u8], most: usize) -> Option<Vec<Vec<Step>>> {
+        let mut lists = self.lists(answer, most)?;
         lists.retain(|l| self.is_reading(answer, l));
         Some(lists)
+    }
+
+    /// The letters taken, word by word: the least number of letters, below the answer's length, with which no list goes along; else that
+    /// length. As long as there are no more than `most` lists.
+    pub fn taken_by_lists(&self, answer: &[u8], most: usize) -> Option<usize> {
+        for n in 0..answer.len() {
+            if self.lists(&answer[..n], most)?.is_empty() {
+                return Some(n);
+            }
+        }
+        Some(answer.len())
+    }
+
+    /// With how many of an answer's letters some list of positions goes along, by going through it from its end: how many of the letters
+    /// that are left can be read from each state, and at the first letter from state 0.
+    pub fn along(&self, answer: &[u8]) -> usize {
+        let p = self.positions.len();
+        let mut left = vec![0; p + 1];
+        for k in (0..answer.len()).rev() {
+            let next = |u: usize, i: usize| if k == 0 { self.firsts.contains(&i) } else { self.follows(u, i) };
+            let held: Vec<usize> = (1..=p).filter(|i| self.holds(*i, answer[k])).collect();
+            let from = |u: usize| held.iter().filter(|i| next(u, **i)).map(|i| 1 + left[*i]).max().unwrap_or(0);
+            left = (0..=p).map(from).collect();
+        }
+        left[0]
+    }
+
+    /// The letters taken: those with which a list goes along, and the one at which none does, if there is one.
+    pub fn taken(&self, answer: &[u8]) -> usize {
+        (self.along(answer) + 1).min(answer.len())
     }
 
     pub fn credit(&self, list: &[Step]) -> i64 {
@@ -562,6 +602,60 @@ impl Pattern {
                     None => (b.lower - 1, rounds(once.clone())),
                 };
                 (0..must).fold(rest, |t, _| then(once.clone(), t))
+            }
+        }
+    }
+
+    /// The pattern's texts of at most `most` letters, those alone that are made of these letters. From the tree as it is written, by
+    /// what POSIX says that alternation, joining and repetition mean.
+    pub fn texts(&self, letters: &[u8], most: usize) -> Vec<Vec<u8>> {
+        self.texts_of(&self.tree, letters, most).into_iter().flatten().collect()
+    }
+
+    fn texts_of(&self, part: &Part, letters: &[u8], most: usize) -> Texts {
+        let none = || vec![BTreeSet::new(); most + 1];
+        let or_nothing = |mut t: Texts| {
+            t[0].insert(Vec::new());
+            t
+        };
+        let then = |a: &Texts, b: &Texts| {
+            let mut t = none();
+            for (i, j) in (0..=most).flat_map(|i| (0..=most - i).map(move |j| (i, j))) {
+                t[i + j].extend(a[i].iter().flat_map(|x| b[j].iter().map(move |y| [&x[..], y].concat())));
+            }
+            t
+        };
+        // so many times at most; `most` rounds of one letter or more are all that there is room for
+        let rounds = |once: &Texts, n: usize| (0..n).fold(or_nothing(none()), |t, _| or_nothing(then(once, &t)));
+        match part {
+            Part::Letter(i) => {
+                let mut t = none();
+                t[1].extend(letters.iter().filter(|b| self.atoms[*i - 1].letters.contains(b)).map(|b| vec![*b]));
+                t
+            }
+            Part::Either(parts) => {
+                let mut t = none();
+                for texts in parts.iter().map(|p| self.texts_of(p, letters, most)) {
+                    t.iter_mut().zip(texts).for_each(|(all, more)| all.extend(more));
+                }
+                t
+            }
+            Part::Joined(parts) => {
+                let all = parts.iter().map(|p| self.texts_of(p, letters, most));
+                all.reduce(|a, b| then(&a, &b)).unwrap()
+            }
+            Part::Repeat(k, p) => {
+                let once = self.texts_of(p, letters, most);
+                match k {
+                    b'?' => or_nothing(once),
+                    b'*' => rounds(&once, most),
+                    _ => then(&once, &rounds(&once, most)),
+                }
+            }
+            Part::Interval(b, p) => {
+                let once = self.texts_of(p, letters, most);
+                let more = rounds(&once, b.upper.map_or(most, |n| n - b.lower));
+                (0..b.lower).fold(more, |t, _| then(&once, &t))
             }
         }
     }

@@ -1,5 +1,5 @@
 //! What the pages claim, run against the library: every row of a table that names a pattern, and a few phrases of the prose, in
-//! README.md, docs/RULES.md and docs/VERDICTS.md.
+//! README.md, docs/RULES.md, docs/VERDICTS.md and docs/C-API.md.
 //!
 //! A table is told by its header (`row`). A text stands in a cell as it does in a sentence, between backticks, with `× n` after it
 //! where it is written n times; several of them are joined, `(byte n)` is one byte, and `(empty)` is the empty text. A phrase is one
@@ -11,21 +11,25 @@
 //!
 //! Besides: a rule that a definition names is a heading of docs/RULES.md, and the pictures have the figures of docs/BENCHMARKS.md.
 
-use crate::library::{mark, vet, Marked, Vetted};
+use crate::library::{mark, mark_bits, vet, Marked, Vetted};
 use crate::{model, show, Tally, EVIDENCE};
 use std::fs;
 use std::path::{Path, PathBuf};
 
 /// The pages, and how many claims each makes.
-const PAGES: [(&str, u32); 3] = [("README.md", 8), ("docs/RULES.md", 320), ("docs/VERDICTS.md", 437)];
+const PAGES: [(&str, u32); 4] = [("README.md", 8), ("docs/RULES.md", 341), ("docs/VERDICTS.md", 449), ("docs/C-API.md", 36)];
 
 /// Tables that make no claim of this kind, by their headers.
-const WORDS: [&str; 5] = [
+const WORDS: [&str; 9] = [
     "verdict, what to do",
     "number, condition",
     "number, condition, vet, mark",
     "number, verdict, when, what it allows",
     "verdict, lengths, evidence",
+    "limit, , ",
+    "`marking_vet`, `marking_vet_in`: bits, `struct marking_vetted`, ",
+    "`marking_mark`: bits, `struct marking_marked`, ",
+    "number, name, condition, vet, mark",
 ];
 
 pub fn run(t: &mut Tally) {
@@ -167,9 +171,10 @@ fn verdict(pattern: &[u8]) -> &'static str {
     }
 }
 
-fn counted(pattern: &[u8], answer: &[u8]) -> Option<(u64, i32)> {
+/// The count, the mark and the letters taken.
+fn counted(pattern: &[u8], answer: &[u8]) -> Option<(u64, i32, usize)> {
     match mark(pattern, answer) {
-        Ok(Marked::Answer { count, mark }) => Some((count, mark)),
+        Ok(Marked::Answer { count, mark, taken }) => Some((count, mark, taken)),
         _ => None,
     }
 }
@@ -183,7 +188,7 @@ fn refusal_of_answer(pattern: &[u8], answer: &[u8]) -> u64 {
 }
 
 fn reads(pattern: &[u8], answer: &[u8]) -> bool {
-    counted(pattern, answer).is_some_and(|(count, _)| count > 0)
+    counted(pattern, answer).is_some_and(|(count, ..)| count > 0)
 }
 
 // ---- tables
@@ -274,9 +279,14 @@ impl Row<'_> {
         }
     }
 
-    /// pattern, answer, and a refusal, or readings and perhaps mark; a pattern under 'write' decides the answer the other way. Under
-    /// 'not converted' are the readings that the same answer has where neither it nor the pattern was converted.
+    /// pattern, answer, and a refusal, or readings and perhaps mark and letters taken, which are the model's where they are not told; a
+    /// pattern under 'write' decides the answer the other way. Under 'not converted' are the readings that the same answer has where
+    /// neither it nor the pattern was converted.
     fn answer(&self, t: &mut Tally, pattern: &[u8], answer: &[u8]) {
+        if let Some(bits) = self.cell("what `marking_mark` returns") {
+            self.returned(t, pattern, answer, bits);
+            return;
+        }
         if self.cell("refusal").is_some() {
             self.is_number(t, "refusal", refusal_of_answer(pattern, answer));
             return;
@@ -286,17 +296,32 @@ impl Row<'_> {
             let raw = p.zip(a).and_then(|(p, a)| counted(&p, &a));
             self.is_number(t, "not converted", raw.map_or(99, |r| r.0));
         }
-        let Some((count, best)) = counted(pattern, answer) else {
+        let Some((count, best, taken)) = counted(pattern, answer) else {
             t.check(false, || format!("{}: refused", self.name));
             return;
         };
         self.is_number(t, "readings", count);
         self.is_mark(t, "mark", best);
+        self.is_number(t, "letters taken", taken as u64);
+        let want = model::read(pattern).map(|p| p.taken(answer));
+        if want != Ok(taken) {
+            t.check(false, || format!("{}: {taken} letters taken, want {want:?}", self.name));
+        }
         if self.cell("what happens").is_some() {
             if let Some(better) = self.text(t, "write") {
                 t.check(refusal(&better) == 0 && reads(&better, answer) != (count > 0), || format!("{}: write", self.name));
             }
         }
+    }
+
+    /// pattern, answer, and what C gets, as it is and unpacked.
+    fn returned(&self, t: &mut Tally, pattern: &[u8], answer: &[u8], bits: &str) {
+        let want = bits.strip_prefix("`0x").and_then(|b| b.strip_suffix('`')).and_then(|b| u64::from_str_radix(b, 16).ok());
+        t.same(Some(mark_bits(pattern, answer)), want, &format!("{}: the number returned", self.name));
+        let (_, best, taken) = counted(pattern, answer).unwrap_or_default();
+        self.is_number(t, "`refusal`", refusal_of_answer(pattern, answer));
+        self.is_mark(t, "`mark`", best);
+        self.is_number(t, "`taken`", taken as u64);
     }
 
     /// pattern, and its refusal, or its verdict with the number of positions and the texts shown, or the same pattern written out.
@@ -315,7 +340,8 @@ impl Row<'_> {
         }
     }
 
-    /// a pattern with an interval and the same without: verdict, positions and texts shown, and the counts and marks of short texts.
+    /// a pattern with an interval and the same without: verdict, positions and texts shown, and the counts, marks and letters taken of
+    /// short texts.
     fn written_out(&self, t: &mut Tally, pattern: &[u8], copies: &[u8]) {
         let (a, b) = (vet(pattern, EVIDENCE, 1), vet(copies, EVIDENCE, 1));
         t.check(a == b && refusal(copies) == 0, || format!("{}: got {a:?} and {b:?}", self.name));
@@ -341,7 +367,8 @@ impl Row<'_> {
         }
     }
 
-    /// instead of, its verdict, what to write, the verdict now, and what of both is the same.
+    /// instead of, its verdict, what to write, the verdict now, and what of both is the same. Where the answers are, they go wrong at
+    /// the same letters.
     fn repair(&self, t: &mut Tally, old: &[u8]) {
         self.is_word(t, "verdict", verdict(old));
         let Some(new) = self.text(t, "write") else { return };
@@ -349,7 +376,7 @@ impl Row<'_> {
         if self.cell("the same") == Some("answers and marks") {
             let differ = short_texts(old, &new).into_iter().find(|s| {
                 let (a, b) = (counted(old, s), counted(&new, s));
-                a.map(|(n, m)| (n > 0, m)) != b.map(|(n, m)| (n > 0, m))
+                a.map(|(n, m, k)| (n > 0, m, k)) != b.map(|(n, m, k)| (n > 0, m, k))
             });
             t.check(differ.is_none(), || format!("{}: not the same on {}", self.name, show(differ.as_ref().unwrap())));
         }
@@ -452,6 +479,9 @@ fn phrase(t: &mut Tally, page: &str, parts: &[&str], from: usize) {
             }
         }
         for o in &objects {
+            if let Some(n) = words.strip_suffix(" letters of ").and_then(|n| number(n.trim())) {
+                t.same(counted(s, o).map(|c| c.2 as u64), Some(n), &format!("{name}`{}`", show(o)));
+            }
             match words {
                 " reads " => t.check(reads(s, o), || format!("{name}`{}`", show(o))),
                 " does not read " => t.check(!reads(s, o) && refusal(s) == 0, || format!("{name}`{}`", show(o))),

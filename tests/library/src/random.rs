@@ -319,6 +319,19 @@ pub fn answer(r: &mut Random, p: &Pattern) -> Vec<u8> {
     out
 }
 
+/// An answer with a letter put in for another, the first, the last or any of them, or after the last, so that it may go wrong there.
+pub fn damaged(r: &mut Random, answer: &[u8]) -> Vec<u8> {
+    let n = answer.len();
+    let at = match r.below(5) {
+        0 => 0,
+        1 => n.saturating_sub(1),
+        2 => n,
+        _ => r.below(n + 1),
+    };
+    let rest = answer.get(at + 1..).unwrap_or_default();
+    [&answer[..at], &[*r.pick(b"abc~  \xa0\xa0\xe9\xff\xff")], rest].concat()
+}
+
 /// An answer of about so many letters: one text of the pattern after another, which together are one if the pattern is a repeat.
 pub fn long_answer(r: &mut Random, p: &Pattern, letters: usize) -> Vec<u8> {
     let mut out = Vec::new();
