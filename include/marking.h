@@ -86,7 +86,7 @@ struct marking_marked {
     int32_t mark; /* the most credit that one reading earns, which may be below zero; 0 where there is no reading */
     /*
      * Letters of the answer that were taken: up to and with the first at which no position is possible any more, all of them where
-     * there is none. Below the answer's length, no answer that begins with these letters has a reading. 0 at a refusal.
+     * there is none. If they are fewer than the answer has, no answer that begins with them has a reading. 0 at a refusal.
      */
     size_t taken;
 };
