@@ -67,11 +67,12 @@ lowest-letter f h = and-parts (isLetter (lowestLetter f)) (f (lowestLetter f)) (
 pub lowest-none : (f : ℕ → Bool) → someLetter f ≡ true → (c : ℕ) → isLetter c ≡ true → c < lowestLetter f → f c ≡ false
 lowest-none f h c i l = sym (ap (λ (t : Bool). t && f c) i) ∙ lowest-from 256 0 (λ c. isLetter c && f c) h .none c (omega arith) l
 
+pub letter-below : (c : ℕ) → isLetter c ≡ true → c < 256
+letter-below c i = by-ranges (c < 256) 32 126 160 255 c i (λ a b. omega arith) (λ a b. omega arith)
+
 -- a set that holds a letter has one
 pub letter-some : (f : ℕ → Bool) (c : ℕ) → isLetter c ≡ true → f c ≡ true → someLetter f ≡ true
-letter-some f c i h =
-    let low : c < 256 = by-ranges (c < 256) 32 126 160 255 c i (λ a b. omega arith) (λ a b. omega arith) in
-    some-from 256 0 (λ c. isLetter c && f c) c (omega arith) low (and-of (isLetter c) (f c) i h)
+letter-some f c i h = some-from 256 0 (λ c. isLetter c && f c) c (omega arith) (letter-below c i) (and-of (isLetter c) (f c) i h)
 
 -- the letters of a text from a place on
 pub letters-from : (s : List ℕ) (i : ℕ) → i < length s → allLetters (drop i s) ≡ (isLetter (getD s i 0) && allLetters (drop (i + 1) s))

@@ -27,6 +27,6 @@ lowestFrom (suc n) c f = if f c then c else lowestFrom n (suc c) f
 abbrev pub someLetter : (ℕ → Bool) → Bool
 someLetter f = someFrom 256 0 (λ c. isLetter c && f c)
 
--- [Letters shown] of a set: its lowest letter
+-- and its lowest one
 abbrev pub lowestLetter : (ℕ → Bool) → ℕ
 lowestLetter f = lowestFrom 256 0 (λ c. isLetter c && f c)

@@ -10,7 +10,7 @@ use lib.Dec.{eqb}
 use lib.Count.{trailingZeros}
 use lib.ListN.{replicate}
 use Rattle.basics.specs.Folds.{Less, LeastOf}
-use Rattle.basics.proofs.Tests.{le-or-lt, neither-less, and-parts, and-of, by-test, equal-added}
+use Rattle.basics.proofs.Tests.{le-or-lt, neither-less, and-parts, and-of, same-test, by-test, equal-added}
 use Rattle.basics.proofs.Lists.{alike}
 use Rattle.bits.specs.Bits.{hasBit, Least}
 use Rattle.bits.proofs.Laws.{has-none, has-high, least-trailing}
@@ -184,6 +184,10 @@ module _ (s : LetterSet) (base m : ℕ) (w : Word s base m) where
       code-in r i p ∙ slots i ∙ sym (ap₂ (λ (a b : Bool). a && not b) (code-in s i p) (code-equal (base + u) i (omega (arith, w .room, k .0)) p))))
 
 -- ---- a set that holds the letters that pass f, against what the specification says of f
+
+-- a test that only letters pass
+pub only-letters : (f : ℕ → Bool) → ((c : ℕ) → f c ≡ true → isLetter c ≡ true) → (c : ℕ) → f c ≡ (isLetter c && f c)
+only-letters f letters c = same-test (f c) (isLetter c && f c) (λ h. and-of (isLetter c) (f c) (letters c h) h) (λ h. and-parts (isLetter c) (f c) h .1)
 
 pub lowest-same : (s : LetterSet) (f : ℕ → Bool) → ((c : ℕ) → hasLetter s c ≡ (isLetter c && f c)) → (t : ℕ) → LeastLetter s t → t ≡ lowestLetter f
 lowest-same s f same t l =

@@ -1,11 +1,12 @@
 // Sets of letters. The contract of a set says of each code c, letter or not, whether the set has it, and only the lowest
-// letter and the rest ask that the set is not empty.
+// letter, the rest and the first letter in order ask that the set is not empty.
 ghost use mathlib.Core.Path.{_≡_};
 ghost use mathlib.Core.Bool.{true, false, not, _&&_, _||_};
 ghost use Prim.Native.Nat.{ℕ, _<_};
 ghost use Rattle.basics.specs.Folds.{Less};
 ghost use Rattle.alphabet.specs.Alphabet.{isLetter};
 ghost use Rattle.letters.specs.LetterSet.{inSlot, hasSlot, slotOf, codeAt, hasLetter, Some, LeastLetter, isWide, weight};
+ghost use Rattle.letters.specs.Order.{inRange, small, capital, digit, lowestOr, firstLetter};
 
 // A set has 192 slots, a bit each: 0 to 63 are those of `low`, then come those of `middle` and of `high`. The codes 32 to 127 have the
 // slots 0 to 95, and 160 to 255 have 96 to 191. All of these are letters but 127, slot 95: the functions that make a set
@@ -163,6 +164,64 @@ pub fn rest(s: LetterSet) -> LetterSet
         low: 0,
         middle: 0,
         high: bits::rest(s.high),
+    }
+}
+
+// The letter shown of a set that is not empty and holds letters only: the first in the order a to z, A to Z, 0 to 9, then the
+// others by code. What comes first is asked last, and takes the place of what was found before. Where the set has nothing of the
+// three ranges, its lowest letter is one of the others.
+pub fn first_in_order(s: LetterSet) -> u8
+    requires { ⌜ Some s × ((c : ℕ) → hasLetter s c ≡ true → isLetter c ≡ true) ⌝ }
+    ensures { λ r. ⌜ r ≡ firstLetter (hasLetter s) ⌝ }
+{
+    let other = lowest(s);
+    let digit = lowest_or(other, s, digits());
+    let capital = lowest_or(digit, s, capital_letters());
+    lowest_or(capital, s, small_letters())
+}
+
+// The lowest letter that is in both sets, or `otherwise` where there is none.
+fn lowest_or(otherwise: u8, s: LetterSet, t: LetterSet) -> u8
+    requires { ⌜ ((c : ℕ) → hasLetter s c ≡ true → isLetter c ≡ true) ⌝ }
+    ensures { λ r. ⌜ r ≡ lowestOr otherwise (hasLetter s) (hasLetter t) ⌝ }
+{
+    let both = intersection(s, t);
+    if is_empty(both) {
+        return otherwise;
+    }
+    lowest(both)
+}
+
+// The letters a to z: slots 65 to 90.
+fn small_letters() -> LetterSet
+    ensures { λ r. ⌜ ((c : ℕ) → hasLetter r c ≡ inRange small c) ⌝ }
+{
+    LetterSet {
+        low: 0x0000_0000_0000_0000,
+        middle: 0x0000_0000_07ff_fffe,
+        high: 0x0000_0000_0000_0000,
+    }
+}
+
+// The letters A to Z: slots 33 to 58.
+fn capital_letters() -> LetterSet
+    ensures { λ r. ⌜ ((c : ℕ) → hasLetter r c ≡ inRange capital c) ⌝ }
+{
+    LetterSet {
+        low: 0x07ff_fffe_0000_0000,
+        middle: 0x0000_0000_0000_0000,
+        high: 0x0000_0000_0000_0000,
+    }
+}
+
+// The digits 0 to 9: slots 16 to 25.
+fn digits() -> LetterSet
+    ensures { λ r. ⌜ ((c : ℕ) → hasLetter r c ≡ inRange digit c) ⌝ }
+{
+    LetterSet {
+        low: 0x0000_0000_03ff_0000,
+        middle: 0x0000_0000_0000_0000,
+        high: 0x0000_0000_0000_0000,
     }
 }
 

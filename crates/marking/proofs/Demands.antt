@@ -11,7 +11,9 @@ use lib.IntN.{pos}
 use lib.ListN.{length, take}
 use lib.Signed.{_≤ℤ_}
 use Rattle.basics.specs.Lists.{Apart, In}
-use Rattle.alphabet.specs.Alphabet.{allLetters}
+use Rattle.alphabet.specs.Alphabet.{isLetter, allLetters}
+use Rattle.letters.specs.Order.{place}
+use Rattle.letters.proofs.Order as Order
 use Rattle.graph.specs.Readings.{Transition, isReading, readings, creditOf, mark}
 use Rattle.graph.specs.Taken.{lettersTaken}
 use Rattle.graph.proofs.Counting as Counting
@@ -26,6 +28,7 @@ use Rattle.pattern.proofs.Texts as Texts
 use Rattle.pattern.proofs.Intervals as Intervals
 use Rattle.pattern.proofs.Own.{some-position}
 use Rattle.pattern.proofs.Doubled.{trim}
+use Rattle.verdict.specs.Pairs.{bothHold, shares, letterShown}
 use Rattle.verdict.specs.Verdict.{verdict}
 use Rattle.verdict.specs.Evidence.{times, ShowsSteady, ShowsRunaway}
 use Rattle.verdict.proofs.Onward as Onward
@@ -100,3 +103,11 @@ runaway-can-show b a = Bounds.runaway-can (patternGraph b) (trim b a)
 -- and x yᵏ z has at least 2ᵏ readings for every k.
 pub runaway-texts-double : (b x y z : List ℕ) → patternRefusal b ≡ 0 → ShowsRunaway (patternGraph b) x y z → (k : ℕ) → 2 ^ k ≤ readings (patternGraph b) (x ++ (times k y ++ z))
 runaway-texts-double b x y z a = Bounds.runaway-shown (patternGraph b) x y z
+
+-- The letter shown where two paths come to the positions i and j, one path being taken twice: both sets hold it,
+pub letter-shown-serves : (b : List ℕ) (i j : ℕ) → patternRefusal b ≡ 0 → shares (patternGraph b) i j ≡ true → bothHold (patternGraph b) i j (letterShown (patternGraph b) i j) ≡ true
+letter-shown-serves b i j a h = Order.first-letter (bothHold (patternGraph b) i j) h .1
+
+-- and no letter that both hold comes before it in the order.
+pub letter-shown-is-first : (b : List ℕ) (i j c : ℕ) → patternRefusal b ≡ 0 → isLetter c ≡ true → bothHold (patternGraph b) i j c ≡ true → place (letterShown (patternGraph b) i j) ≤ place c
+letter-shown-is-first b i j c a l h = Order.first-least (bothHold (patternGraph b) i j) c l h

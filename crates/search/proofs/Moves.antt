@@ -11,7 +11,8 @@ use lib.Dec.{eqb, leb}
 use lib.ListN.{getD}
 use Rattle.basics.specs.Lists.{Chain}
 use Rattle.basics.proofs.Tests.{both-swap, or-left, or-right, or-cases}
-use Rattle.alphabet.specs.Alphabet.{someLetter, lowestLetter}
+use Rattle.alphabet.specs.Alphabet.{someLetter}
+use Rattle.letters.specs.Order.{firstLetter}
 use Rattle.bits.specs.Bits.{hasBit}
 use Rattle.graph.specs.Graph.{Graph, isPosition, next}
 use Rattle.graph.proofs.Walks.{position-of}
@@ -28,7 +29,7 @@ pub shares-swap : (g : Graph) (a b : ℕ) → shares g a b ≡ shares g b a
 shares-swap g a b = both-swap someLetter (g .holds a) (g .holds b)
 
 pub letter-swap : (g : Graph) (a b : ℕ) → letterShown g a b ≡ letterShown g b a
-letter-swap g a b = both-swap lowestLetter (g .holds a) (g .holds b)
+letter-swap g a b = both-swap firstLetter (g .holds a) (g .holds b)
 
 abbrev pub codeOf : Bool → Pair → ℕ
 codeOf true t = pack (t .left) (t .right)

@@ -5,7 +5,8 @@ use mathlib.Core.List.{List, [], _∷_, _++_, map}
 use Prim.Native.Nat.{ℕ, suc, _+_, _≤_, _<_}
 use lib.ListN.{length, take, drop}
 use Rattle.basics.specs.Lists.{Apart, endOf, Chain}
-use Rattle.alphabet.specs.Alphabet.{someLetter, lowestLetter}
+use Rattle.alphabet.specs.Alphabet.{someLetter}
+use Rattle.letters.specs.Order.{firstLetter}
 use Rattle.letters.specs.declared.LetterSet.{LetterSet}
 use Rattle.nodes.specs.Nodes.{leftOf, rightOf, Step}
 use Rattle.shares.specs.Tables.{held}
@@ -16,7 +17,7 @@ use Rattle.search.specs.Search.{queue, backOf, isGoal}
 
 -- the letter shown of a node, and that there is one
 unfoldable pub letterAt : List LetterSet → ℕ → ℕ
-letterAt sets x = lowestLetter (held sets (leftOf x) (rightOf x))
+letterAt sets x = firstLetter (held sets (leftOf x) (rightOf x))
 
 pub record Showable (sets : List LetterSet) (x : ℕ) : Type 0 where
   pub left : leftOf x ≤ 60

@@ -6,8 +6,9 @@ ghost use mathlib.Core.Path.{_≡_};
 ghost use mathlib.Core.Bool.{true, _&&_};
 ghost use Prim.Native.Nat.{ℕ, _+_, _≤_, _<_};
 ghost use lib.ListN.{length, getD};
-ghost use Rattle.alphabet.specs.Alphabet.{isLetter, someLetter, lowestLetter};
+ghost use Rattle.alphabet.specs.Alphabet.{isLetter, someLetter};
 ghost use Rattle.letters.specs.LetterSet.{hasLetter, OnlyLetters};
+ghost use Rattle.letters.specs.Order.{firstLetter};
 ghost use Rattle.nodes.specs.Nodes.{leftOf, rightOf, Step};
 ghost use Rattle.texts.specs.Texts.{Showable, LeadsBack, Behind, Traced, Shown};
 
@@ -80,12 +81,12 @@ fn trace(
     }
 }
 
-// The letter shown of a node: the lowest that both its sets hold.
+// The letter shown of a node: the first in order that both its sets hold.
 fn letter(s: LetterSet, t: LetterSet) -> u8
     requires { ⌜ ((c : ℕ) → hasLetter s c ≡ true → isLetter c ≡ true) × (someLetter (λ c. hasLetter s c && hasLetter t c) ≡ true) ⌝ }
-    ensures { λ r. ⌜ r ≡ lowestLetter (λ c. hasLetter s c && hasLetter t c) ⌝ }
+    ensures { λ r. ⌜ r ≡ firstLetter (λ c. hasLetter s c && hasLetter t c) ⌝ }
 {
-    letters::lowest(letters::intersection(s, t))
+    letters::first_in_order(letters::intersection(s, t))
 }
 
 // Where one path of a node is, of a pair the one at the greater position.

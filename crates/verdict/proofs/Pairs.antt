@@ -1,5 +1,5 @@
 -- A step of two walks over one text, side by side, is one of pairs, and a chain of pairs is two walks over the text shown for it:
--- at each step the lowest letter that both sets hold. Assumes nothing.
+-- at each step the letter shown of both sets. Assumes nothing.
 use mathlib.Core.Path.{_≡_, refl, sym, ap, _∙_}
 use mathlib.Core.Bool.{true}
 use mathlib.Core.List.{List, [], _∷_, map}
@@ -9,7 +9,8 @@ use lib.Arith.{digits-lt, digits-div, digits-mod}
 use Rattle.basics.specs.Lists.{Chain}
 use Rattle.basics.proofs.Tests.{and-parts, and-of}
 use Rattle.alphabet.specs.Alphabet.{isLetter, allLetters}
-use Rattle.alphabet.proofs.Alphabet.{lowest-letter, letter-some}
+use Rattle.alphabet.proofs.Alphabet.{letter-some}
+use Rattle.letters.proofs.Order.{first-letter}
 use Rattle.graph.specs.Graph.{Graph, isPosition, next, step}
 use Rattle.graph.proofs.Walks.{Walk, position-of, step-parts, step-of}
 use Rattle.verdict.specs.Pairs.{Pair, pair, bothHold, shares, letterShown}
@@ -69,7 +70,7 @@ module _ (g : Graph) where
   shown-held : (t u : Pair) → Beside t u → (g .holds (u .left) (letterShown g (u .left) (u .right)) ≡ true) × (g .holds (u .right) (letterShown g (u .left) (u .right)) ≡ true)
   shown-held t u b =
       let c = letterShown g (u .left) (u .right) in
-      and-parts (g .holds (u .left) c) (g .holds (u .right) c) (lowest-letter (bothHold g (u .left) (u .right)) (b .share) .1)
+      and-parts (g .holds (u .left) c) (g .holds (u .right) c) (first-letter (bothHold g (u .left) (u .right)) (b .share) .1)
 
   pub left-walk : (t : Pair) (c : List Pair) → Chain Beside t c → Walk g (t .left) (shown g (lefts c) (rights c)) (lefts c)
   left-walk = side-walk (λ t. t .left) (λ t u b. step-of g (t .left) (letterShown g (u .left) (u .right)) (u .left) (b .placed .0) (b .left-next) (shown-held t u b .0))

@@ -144,7 +144,7 @@ pub record Parting (g : Graph) (u : ℕ) (goal : ℕ → ℕ → Bool) : Type 0 
   pub text : List ℕ
   pub one : List Transition
   pub other : List Transition
-  pub lowest : text ≡ shown g (path one) (path other)
+  pub letters-shown : text ≡ shown g (path one) (path other)
   pub goes-one : Goes g u text one
   pub goes-other : Goes g u text other
   pub differ : one ≡ other → ⊥
@@ -172,7 +172,7 @@ module _ (g : Graph) (trim : Trim g) (u : ℕ) (goal : ℕ → ℕ → Bool) whe
         text = text;
         one = leftSide g (s .nodes);
         other = rightSide g (start u) (s .nodes);
-        lowest = ap₂ (shown g) (sym (path-plain (lefts c))) (sym right-is);
+        letters-shown = ap₂ (shown g) (sym (path-plain (lefts c))) (sym right-is);
         goes-one = walk-plain g u text (lefts c) left;
         goes-other = (subst (λ (l : List ℕ). Walk g u text l) (sym right-is) (right-walk g (pair u u) c k), right-takes g (start u) (s .nodes) (λ e. refl) (s .goes));
         differ = different g (start u) (s .nodes) (s .goes) refl (ap (λ (n : Node). n .parted) (s .ends));

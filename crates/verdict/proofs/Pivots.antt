@@ -68,7 +68,7 @@ pub record Loops (g : Graph) (q : ℕ) : Type 0 where
   pub text : List ℕ
   pub one : List Transition
   pub other : List Transition
-  pub lowest : text ≡ shown g (path one) (path other)
+  pub letters-shown : text ≡ shown g (path one) (path other)
   pub goes-one : Goes g q text one
   pub goes-other : Goes g q text other
   pub one-back : endOf q (path one) ≡ q
@@ -91,7 +91,7 @@ parting-loops g q p =
       text = p .text;
       one = p .one;
       other = p .other;
-      lowest = p .lowest;
+      letters-shown = p .letters-shown;
       goes-one = p .goes-one;
       goes-other = p .goes-other;
       one-back = eqb-true (endOf q (path (p .one))) q (b .0);

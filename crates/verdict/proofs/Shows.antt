@@ -42,7 +42,7 @@ parting-steady g p =
       reads-one = goes-reads g 0 (p .text) (p .one) (p .goes-one, l .0);
       reads-other = goes-reads g 0 (p .text) (p .other) (p .goes-other, l .1);
       differ = p .differ;
-      lowest = p .lowest;
+      letters-shown = p .letters-shown;
     }
 
 pub steady-shows : (g : Graph) → Trim g → ambiguous g ≡ true → (s : List ℕ) × ShowsSteady g s
@@ -110,9 +110,9 @@ module _ (g : Graph) (trim : Trim g) where
         first = comes;
         back = end-any 0 q (path (m .one)) (omega arith) ∙ m .one-back;
         other-back = end-any 0 q (path (m .other)) (omega arith) ∙ m .other-back;
-        lowest-x = ap₂ (shown g) (sym in-is) (sym in-is);
-        lowest-y = m .lowest;
-        lowest-z = ap₂ (shown g) (sym out-is) (sym out-is);
+        letters-shown-x = ap₂ (shown g) (sym in-is) (sym in-is);
+        letters-shown-y = m .letters-shown;
+        letters-shown-z = ap₂ (shown g) (sym out-is) (sym out-is);
       }
 
   pub runaway-shows : (firstPivot g ≡ 0 → ⊥) → (x : List ℕ) × (y : List ℕ) × (z : List ℕ) × ShowsRunaway g x y z
@@ -151,8 +151,8 @@ module _ (g : Graph) (x y z : List ℕ) where
 
   pub runaway-rounds : ShowsRunaway g x y z → Rounds g x y z
   runaway-rounds r =
-      let lx = path-length x (r .way-in) (r .lowest-x) in
-      let lz = path-length z (r .way-out) (r .lowest-z) in
+      let lx = path-length x (r .way-in) (r .letters-shown-x) in
+      let lz = path-length z (r .way-out) (r .letters-shown-z) in
       let one = round-of (r .way-in) (r .loop) (r .way-out) lx lz (r .some-y) (r .reads-loop) (r .first) (r .back) in
       let other = round-of (r .way-in) (r .other) (r .way-out) lx lz (r .some-y) (r .reads-other) (r .first) (r .other-back) in
       record {

@@ -35,7 +35,7 @@ pub record ShowsSteady (g : Graph) (s : List ℕ) : Type 0 where
   pub reads-one : isReading g s one ≡ true
   pub reads-other : isReading g s other ≡ true
   pub differ : one ≡ other → ⊥
-  pub lowest : s ≡ shown g (path one) (path other)
+  pub letters-shown : s ≡ shown g (path one) (path other)
 
 -- [Runaway texts] x, y, z: a way to the first pivot, two different loops there over one text, and a way to an end
 pub record ShowsRunaway (g : Graph) (x y z : List ℕ) : Type 0 where
@@ -55,6 +55,6 @@ pub record ShowsRunaway (g : Graph) (x y z : List ℕ) : Type 0 where
   pub first : endOf 0 (path way-in) ≡ firstPivot g
   pub back : endOf 0 (path loop) ≡ firstPivot g
   pub other-back : endOf 0 (path other) ≡ firstPivot g
-  pub lowest-x : x ≡ shown g (path way-in) (path way-in)
-  pub lowest-y : y ≡ shown g (path loop) (path other)
-  pub lowest-z : z ≡ shown g (path way-out) (path way-out)
+  pub letters-shown-x : x ≡ shown g (path way-in) (path way-in)
+  pub letters-shown-y : y ≡ shown g (path loop) (path other)
+  pub letters-shown-z : z ≡ shown g (path way-out) (path way-out)

@@ -3,7 +3,8 @@ use mathlib.Core.Bool.{Bool, _&&_, _||_}
 use Prim.Native.Nat.{ℕ, zero, suc}
 use lib.Dec.{eqb}
 use Rattle.basics.specs.Folds.{anyIf}
-use Rattle.alphabet.specs.Alphabet.{someLetter, lowestLetter}
+use Rattle.alphabet.specs.Alphabet.{someLetter}
+use Rattle.letters.specs.Order.{firstLetter}
 use Rattle.graph.specs.Graph.{Graph, isPosition, next}
 
 pub record Pair : Type 0 where
@@ -13,7 +14,7 @@ pub record Pair : Type 0 where
 abbrev pub pair : ℕ → ℕ → Pair
 pair a b = record { left = a; right = b }
 
--- the letters that the sets of two positions both hold; is there one; [Letters shown] the lowest of them
+-- the letters that the sets of two positions both hold; is there one; [Letters shown] the first of them in the order
 abbrev pub bothHold : Graph → ℕ → ℕ → ℕ → Bool
 bothHold g a b c = g .holds a c && g .holds b c
 
@@ -21,7 +22,7 @@ abbrev pub shares : Graph → ℕ → ℕ → Bool
 shares g a b = someLetter (bothHold g a b)
 
 abbrev pub letterShown : Graph → ℕ → ℕ → ℕ
-letterShown g a b = lowestLetter (bothHold g a b)
+letterShown g a b = firstLetter (bothHold g a b)
 
 -- does a test hold of some pair of positions
 abbrev pub somePair : Graph → (ℕ → ℕ → Bool) → Bool

@@ -1,5 +1,5 @@
 -- The set of both is empty just where they share no letter. Assumes nothing.
-use Rattle.shares.proofs.Letters.{none-shared}
+use Rattle.letters.proofs.Shared.{none-shared}
 use borrow.Author.Needs.{needs}
 use Rattle.shares.proofs.share.Statement.{statement}
 use Rattle.shares.proofs.share.Tie as tie

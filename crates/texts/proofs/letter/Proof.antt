@@ -1,20 +1,29 @@
--- The set of both holds just what the two share, so its lowest letter is theirs. Assumes nothing.
-use Rattle.shares.proofs.Letters.{some-shared, lowest-shared}
+-- The set of both holds just what the two share, so its first letter is theirs. Assumes nothing.
+use mathlib.Core.Path.{_≡_, sym, ap, _∙_}
+use mathlib.Core.Bool.{true}
+use Prim.Native.Nat.{ℕ}
 use borrow.Author.Needs.{needs}
+use Rattle.basics.proofs.Tests.{and-parts}
+use Rattle.letters.specs.LetterSet.{hasLetter}
+use Rattle.letters.specs.Order.{firstLetter}
+use Rattle.letters.proofs.Shared.{some-shared}
 use Rattle.texts.proofs.letter.Statement.{statement}
 use Rattle.texts.proofs.letter.Tie as tie
 
 intersection-requires : tie.Need-intersection-requires
 intersection-requires c κs = search needs
 
-lowest-requires : tie.Need-lowest-requires
-lowest-requires c κs = let s = c .before in some-shared (s .args .s) (s .args .t) (c .intersection .result) (s .pre .0) (c .intersection .ensures) (s .pre .1)
+first-in-order-requires : tie.Need-first-in-order-requires
+first-in-order-requires c κs =
+    let s = c .before .args .s in
+    let t = c .before .args .t in
+    let both = c .intersection in (
+      some-shared s t (both .result) (c .before .pre .0) (both .ensures) (c .before .pre .1),
+      λ k h. c .before .pre .0 k (and-parts (hasLetter s k) (hasLetter t k) (sym (both .ensures k) ∙ h) .0),
+    )
 
 returns : tie.Need-returns
-returns c =
-    let s = c .before .before in
-    let both = c .before .intersection in
-    lowest-shared (s .args .s) (s .args .t) (both .result) (s .pre .0) (both .ensures) (c .lowest .result) (c .lowest .ensures)
+returns c = c .first-in-order .ensures ∙ ap firstLetter (λ i k. c .before .intersection .ensures k i)
 
 pub letter-spec : {M : Type 1} → statement M
-letter-spec = tie.close (tie.spec intersection-requires lowest-requires returns)
+letter-spec = tie.close (tie.spec intersection-requires first-in-order-requires returns)

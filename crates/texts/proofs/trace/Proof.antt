@@ -4,7 +4,8 @@ use Prim.Native.Nat.{ℕ, _+_, _≤_, _<_}
 use native.Mathlib.Omega.{arith}
 use lib.ListN.{length, getD}
 use borrow.Author.Needs.{needs}
-use Rattle.alphabet.specs.Alphabet.{someLetter, lowestLetter}
+use Rattle.alphabet.specs.Alphabet.{someLetter}
+use Rattle.letters.specs.Order.{firstLetter}
 use Rattle.shares.specs.Tables.{held}
 use Rattle.search.specs.Search.{backOf}
 use Rattle.texts.specs.Texts.{letterAt, Showable}
@@ -98,7 +99,7 @@ unfolding letterAt
 loop-again c =
     let i = c .before .before .before .before .before .before .before in
     write-next (i .before .loop .inv) (i .loop-test .taken) (back i)
-    (c .before .letter .ensures ∙ ap₂ (λ (a b : ℕ). lowestLetter (held (i .before .before .before .before .args .t1) a b)) (c .before .before .before .before .before .left .ensures) (c .before .before .before .before .right .ensures))
+    (c .before .letter .ensures ∙ ap₂ (λ (a b : ℕ). firstLetter (held (i .before .before .before .before .args .t1) a b)) (c .before .before .before .before .before .left .ensures) (c .before .before .before .before .right .ensures))
 
 same-length : tie.Need-same-length Inv-loop μ-loop
 same-length c = c .before .loop .inv .same
