@@ -94,10 +94,14 @@ fn share(a: &Set, b: &Set) -> bool {
     (0..4).fold(0, |all, k| all | a[k] & b[k]) != 0
 }
 
-/// The lowest letter that two sets share.
-fn lowest(a: &Set, b: &Set) -> u8 {
-    let k = (0..4).find(|k| a[*k] & b[*k] != 0).unwrap_or(0);
-    (64 * k as u32 + (a[k] & b[k]).trailing_zeros()) as u8
+/// What is shown first: `a` to `z`, `A` to `Z`, `0` to `9`, and then the other letters by code. Each is an entry of a set and a mask.
+const GROUPS: [(usize, u64); 7] =
+    [(1, ((1 << 26) - 1) << 33), (1, ((1 << 26) - 1) << 1), (0, ((1 << 10) - 1) << 48), (0, !0), (1, !0), (2, !0), (3, !0)];
+
+/// The letter shown for two sets: of the first group in which they share one, the lowest that they share.
+fn shown(a: &Set, b: &Set) -> u8 {
+    let (k, group) = GROUPS.into_iter().find(|(k, group)| a[*k] & b[*k] & group != 0).unwrap_or((0, 0));
+    (64 * k as u32 + (a[k] & b[k] & group).trailing_zeros()) as u8
 }
 
 impl Reader<'_> {
@@ -584,7 +588,7 @@ impl Search {
         while at != 0 {
             let node = self.queue[at] as usize;
             let (c, d) = if node < 64 { (node, node) } else { (node / 64, node % 64) };
-            out.push(lowest(&b.letters[c], &b.letters[d]));
+            out.push(shown(&b.letters[c], &b.letters[d]));
             at = self.from[at] as usize;
         }
         out[begin..].reverse();

@@ -207,6 +207,34 @@ static void verdicts(void) {
     check("x, y and z", v.x_len == 1 && v.y_len == 3 && v.z_len == 1 && memcmp(evidence, "aabac", 5) == 0);
 }
 
+/* The letters shown: of those that serve the first of a to z, A to Z and 0 to 9, and then of the others by code. */
+static void letters_shown(void) {
+    static const struct {
+        const char *pattern, *text;
+    } cases[] = {{".*.*", "a"},
+                 {"[zA!]*.*", "z"},
+                 {"[A-Z0-9]*.*", "A"},
+                 {"[^a-z]*.*", "A"},
+                 {"[Z9!]*.*", "Z"},
+                 {"[0-9 ]*.*", "0"},
+                 {"[!-9]*.*", "0"},
+                 {"[9 ]*.*", "9"},
+                 {"[ -/]*.*", " "},
+                 {"[:-@]*.*", ":"},
+                 {"[\xe9~]*.*", "~"},
+                 {"[\xe9\xe8]*.*", "\xe8"},
+                 {"[^ -~]*.*", "\xa0"},
+                 {"[a-m ]*[n-z ]*", " "},
+                 {"[^a-z](b|b)[0-9!]", "Ab0"},
+                 {"(.*!)*", "a!a!"},
+                 {"([A-m]|[ -Z])*", "aAa"},
+                 {"[0-9 ](b|b)*[Z0]", "0bbbZ"}};
+    for (size_t i = 0; i < sizeof cases / sizeof cases[0]; i++) {
+        struct marking_vetted v = vet(cases[i].pattern);
+        check(cases[i].pattern, v.text_len == strlen(cases[i].text) && memcmp(evidence, cases[i].text, v.text_len) == 0);
+    }
+}
+
 /* The bits that docs/C-API.md gives to each field, all set, with those of its neighbours clear. */
 static void fields(void) {
     struct marking_vetted v = marking_vet_unpack(0xff);
@@ -253,6 +281,7 @@ int main(void) {
     intervals();
     letters_taken();
     verdicts();
+    letters_shown();
     fields();
     version();
     printf("%d passed, %d failed\n", passed, failed);

@@ -2,7 +2,7 @@
 -- in one word. Assumes nothing.
 use mathlib.Core.Path.{_≡_, sym, ap, ap₂, _∙_}
 use mathlib.Core.Logic.{⊎-elim}
-use mathlib.Core.Bool.{Bool, true, false, not, _&&_, true≢false}
+use mathlib.Core.Bool.{Bool, true, false, not, _&&_, true≢false, false≢true}
 use mathlib.Core.List.{List, [], _∷_}
 use Prim.Native.Nat.{ℕ, _+_, _-_, _^_, _≤_, _<_, min}
 use native.Mathlib.Nat.{pow-le-pow-right}
@@ -16,20 +16,21 @@ use Rattle.bits.specs.Bits.{hasBit}
 use Rattle.bits.proofs.Laws.{has-minus, has-ones}
 use Rattle.alphabet.specs.Alphabet.{isLetter, someLetter, lowestLetter}
 use Rattle.alphabet.proofs.Alphabet.{lowest-letter, lowest-none, letter-below, letter-some}
-use Rattle.letters.specs.LetterSet.{hasSlot, codeAt, hasLetter}
+use Rattle.letters.specs.LetterSet.{hasSlot, codeAt, hasLetter, LeastLetter}
 use Rattle.letters.specs.declared.LetterSet.{LetterSet}
-use Rattle.letters.specs.Order.{Range, inRange, order, placeBy, place, firstBy, firstLetter}
+use Rattle.letters.specs.Order.{Range, inRange, order, placeBy, place, among, firstBy, firstLetter}
 use Rattle.letters.proofs.Slots.{by-slot, has-low}
 use Rattle.letters.proofs.Sets.{by-words}
+use Rattle.letters.proofs.Shared.{lowest-shared, none-shared}
 
 -- ---- the first letter
 
 first-by : (rs : List Range) (f : ℕ → Bool) → someLetter f ≡ true → (isLetter (firstBy rs f) ≡ true) × (f (firstBy rs f) ≡ true)
 first-by [] f h = lowest-letter f h
 first-by (r ∷ rs) f h =
-    let both : ℕ → Bool = λ c. f c && inRange r c in
-    if-either (λ (c : ℕ). (isLetter c ≡ true) × (f c ≡ true)) (lowestLetter both) (firstBy rs f) (someLetter both)
-    (λ e. let q = lowest-letter both e in (q .0, and-parts (f (lowestLetter both)) (inRange r (lowestLetter both)) (q .1) .0)) (λ e. first-by rs f h)
+    let l = lowestLetter (among r f) in
+    if-either (λ (c : ℕ). (isLetter c ≡ true) × (f c ≡ true)) l (firstBy rs f) (someLetter (among r f))
+    (λ e. let q = lowest-letter (among r f) e in (q .0, and-parts (f l) (inRange r l) (q .1) .0)) (λ e. first-by rs f h)
 
 -- the first letter of a set that has one is a letter of it
 pub first-letter : (f : ℕ → Bool) → someLetter f ≡ true → (isLetter (firstLetter f) ≡ true) × (f (firstLetter f) ≡ true)
@@ -43,11 +44,8 @@ lowest-least f h c i k = ⊎-elim (λ l. l) (λ l. absurd (true≢false (sym k �
 
 first-place : (rs : List Range) (f : ℕ → Bool) → someLetter f ≡ true → (c : ℕ) → isLetter c ≡ true → f c ≡ true → placeBy rs (firstBy rs f) ≤ placeBy rs c
 first-place [] f h c i k = lowest-least f h c i k
-first-place (r ∷ rs) f h c i k = by-test (someLetter both) here (later (first-place rs f h c i k))
+first-place (r ∷ rs) f h c i k = by-test (someLetter (among r f)) here (later (first-place rs f h c i k))
   where
-    both : ℕ → Bool
-    both d = f d && inRange r d
-
     -- the place of a code that is in the range, and of one that is not
     inside : (d : ℕ) → inRange r d ≡ true → placeBy (r ∷ rs) d ≡ d
     inside d e = if-yes d (256 + placeBy rs d) (inRange r d) e
@@ -55,22 +53,22 @@ first-place (r ∷ rs) f h c i k = by-test (someLetter both) here (later (first-
     outside : (d : ℕ) → inRange r d ≡ false → placeBy (r ∷ rs) d ≡ 256 + placeBy rs d
     outside d e = if-no d (256 + placeBy rs d) (inRange r d) e
 
-    here : someLetter both ≡ true → placeBy (r ∷ rs) (firstBy (r ∷ rs) f) ≤ placeBy (r ∷ rs) c
+    here : someLetter (among r f) ≡ true → placeBy (r ∷ rs) (firstBy (r ∷ rs) f) ≤ placeBy (r ∷ rs) c
     here e =
-        let l = lowestLetter both in
-        let q = lowest-letter both e in
-        let first : placeBy (r ∷ rs) (firstBy (r ∷ rs) f) ≡ l = ap (placeBy (r ∷ rs)) (if-yes l (firstBy rs f) (someLetter both) e) ∙ inside l (and-parts (f l) (inRange r l) (q .1) .1) in
+        let l = lowestLetter (among r f) in
+        let q = lowest-letter (among r f) e in
+        let first : placeBy (r ∷ rs) (firstBy (r ∷ rs) f) ≡ l = ap (placeBy (r ∷ rs)) (if-yes l (firstBy rs f) (someLetter (among r f)) e) ∙ inside l (and-parts (f l) (inRange r l) (q .1) .1) in
         by-test (inRange r c)
-        (λ y. let least = lowest-least both e c i (and-of (f c) (inRange r c) k y) in let p = inside c y in omega arith)
+        (λ y. let least = lowest-least (among r f) e c i (and-of (f c) (inRange r c) k y) in let p = inside c y in omega arith)
         (λ n. let low = letter-below l (q .0) in let p = outside c n in omega arith)
 
-    later : placeBy rs (firstBy rs f) ≤ placeBy rs c → someLetter both ≡ false → placeBy (r ∷ rs) (firstBy (r ∷ rs) f) ≤ placeBy (r ∷ rs) c
+    later : placeBy rs (firstBy rs f) ≤ placeBy rs c → someLetter (among r f) ≡ false → placeBy (r ∷ rs) (firstBy (r ∷ rs) f) ≤ placeBy (r ∷ rs) c
     later least e =
         let m = firstBy rs f in
         let q = first-by rs f h in
         let out : (d : ℕ) → isLetter d ≡ true → f d ≡ true → inRange r d ≡ false
-        = λ d a b. by-test (inRange r d) (λ y. absurd (true≢false (sym (letter-some both d a (and-of (f d) (inRange r d) b y)) ∙ e))) (λ n. n) in
-        let first = ap (placeBy (r ∷ rs)) (if-no (lowestLetter both) m (someLetter both) e) ∙ outside m (out m (q .0) (q .1)) in
+        = λ d a b. by-test (inRange r d) (λ y. absurd (true≢false (sym (letter-some (among r f) d a (and-of (f d) (inRange r d) b y)) ∙ e))) (λ n. n) in
+        let first = ap (placeBy (r ∷ rs)) (if-no (lowestLetter (among r f)) m (someLetter (among r f)) e) ∙ outside m (out m (q .0) (q .1)) in
         let p = outside c (out c i k) in
         omega arith
 
@@ -78,6 +76,26 @@ first-place (r ∷ rs) f h c i k = by-test (someLetter both) here (later (first-
 pub first-least : (f : ℕ → Bool) (c : ℕ) → isLetter c ≡ true → f c ≡ true → place (firstLetter f) ≤ place c
 unfolding firstLetter
 first-least f c i k = first-place order f (letter-some f c i k) c i k
+
+-- ---- a range asked of a set s that holds letters only: g is the set of the range, and both has the letters of s in it
+
+module _ (s g both : LetterSet) (letters : (c : ℕ) → hasLetter s c ≡ true → isLetter c ≡ true) (meet : (c : ℕ) → hasLetter both c ≡ (hasLetter s c && hasLetter g c))
+    (r : Range) (rs : List Range) (range : (c : ℕ) → hasLetter g c ≡ inRange r c) where
+  shared : (λ (c : ℕ). hasLetter s c && hasLetter g c) ≡ among r (hasLetter s)
+  shared i c = hasLetter s c && range c i
+
+  -- there are some, and the lowest of them is the first letter
+  pub found : (c : ℕ) → LeastLetter both c → c ≡ firstBy (r ∷ rs) (hasLetter s)
+  found c l =
+      let some = none-shared s g both letters meet false (λ e. absurd (false≢true e)) (λ e. record { code = c; here = l .here }) ∙ ap someLetter shared in
+      lowest-shared s g both letters meet c l ∙ ap lowestLetter shared
+      ∙ sym (if-yes (lowestLetter (among r (hasLetter s))) (firstBy rs (hasLetter s)) (someLetter (among r (hasLetter s))) (sym some))
+
+  -- there are none, and the ranges left decide
+  pub passed : ((c : ℕ) → hasLetter both c ≡ false) → firstBy rs (hasLetter s) ≡ firstBy (r ∷ rs) (hasLetter s)
+  passed empty =
+      let none = none-shared s g both letters meet true (λ e. empty) (λ e. absurd (true≢false e)) ∙ ap someLetter shared in
+      sym (if-no (lowestLetter (among r (hasLetter s))) (firstBy rs (hasLetter s)) (someLetter (among r (hasLetter s))) (sym none))
 
 -- ---- the set of a range of codes below 128
 

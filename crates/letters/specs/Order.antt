@@ -39,14 +39,14 @@ placeBy (r ∷ rs) c = if inRange r c then c else 256 + placeBy rs c
 abbrev pub place : ℕ → ℕ
 place c = placeBy order c
 
--- the lowest letter that passes both tests, or d where none does
-abbrev pub lowestOr : ℕ → (ℕ → Bool) → (ℕ → Bool) → ℕ
-lowestOr d f p = if someLetter (λ c. f c && p c) then lowestLetter (λ c. f c && p c) else d
+-- the letters of a set, given by its test, that are in a range
+abbrev pub among : Range → (ℕ → Bool) → ℕ → Bool
+among r f c = f c && inRange r c
 
--- of a set, given by its test: the lowest letter in the first of the ranges that has one of its letters, or of all where none has
+-- of a set: the lowest letter in the first of the ranges that has one of its letters, or of all where none has
 abbrev pub firstBy : List Range → (ℕ → Bool) → ℕ
 firstBy [] f = lowestLetter f
-firstBy (r ∷ rs) f = lowestOr (firstBy rs f) f (inRange r)
+firstBy (r ∷ rs) f = if someLetter (among r f) then lowestLetter (among r f) else firstBy rs f
 
 -- [Letters shown] of a set: its first letter in the order
 unfoldable pub firstLetter : (ℕ → Bool) → ℕ

@@ -6,7 +6,7 @@ ghost use Prim.Native.Nat.{ℕ, _<_};
 ghost use Rattle.basics.specs.Folds.{Less};
 ghost use Rattle.alphabet.specs.Alphabet.{isLetter};
 ghost use Rattle.letters.specs.LetterSet.{inSlot, hasSlot, slotOf, codeAt, hasLetter, Some, LeastLetter, isWide, weight};
-ghost use Rattle.letters.specs.Order.{inRange, small, capital, digit, lowestOr, firstLetter};
+ghost use Rattle.letters.specs.Order.{inRange, small, capital, digit, firstLetter};
 
 // A set has 192 slots, a bit each: 0 to 63 are those of `low`, then come those of `middle` and of `high`. The codes 32 to 127 have the
 // slots 0 to 95, and 160 to 255 have 96 to 191. All of these are letters but 127, slot 95: the functions that make a set
@@ -168,28 +168,24 @@ pub fn rest(s: LetterSet) -> LetterSet
 }
 
 // The letter shown of a set that is not empty and holds letters only: the first in the order a to z, A to Z, 0 to 9, then the
-// others by code. What comes first is asked last, and takes the place of what was found before. Where the set has nothing of the
-// three ranges, its lowest letter is one of the others.
+// others by code. Where the set has nothing of the three ranges, its lowest letter is one of the others.
 pub fn first_in_order(s: LetterSet) -> u8
     requires { ⌜ Some s × ((c : ℕ) → hasLetter s c ≡ true → isLetter c ≡ true) ⌝ }
     ensures { λ r. ⌜ r ≡ firstLetter (hasLetter s) ⌝ }
 {
-    let other = lowest(s);
-    let digit = lowest_or(other, s, digits());
-    let capital = lowest_or(digit, s, capital_letters());
-    lowest_or(capital, s, small_letters())
-}
-
-// The lowest letter that is in both sets, or `otherwise` where there is none.
-fn lowest_or(otherwise: u8, s: LetterSet, t: LetterSet) -> u8
-    requires { ⌜ ((c : ℕ) → hasLetter s c ≡ true → isLetter c ≡ true) ⌝ }
-    ensures { λ r. ⌜ r ≡ lowestOr otherwise (hasLetter s) (hasLetter t) ⌝ }
-{
-    let both = intersection(s, t);
-    if is_empty(both) {
-        return otherwise;
+    let small = intersection(s, small_letters());
+    if !is_empty(small) {
+        return lowest(small);
     }
-    lowest(both)
+    let capital = intersection(s, capital_letters());
+    if !is_empty(capital) {
+        return lowest(capital);
+    }
+    let digit = intersection(s, digits());
+    if !is_empty(digit) {
+        return lowest(digit);
+    }
+    lowest(s)
 }
 
 // The letters a to z: slots 65 to 90.

@@ -1,8 +1,9 @@
 //! Tests of the library against the rules: specimens, every byte in patterns and in answers, French and Spanish texts, points taken
 //! off, every byte in a credit, intervals with every bound and every byte in them and beside the same patterns written out, edges of every
-//! refusal, the last positions and the first past them, links by the hundred and counts at 2^63 by links, answers short and long, where
-//! an answer goes wrong, calls one after another, lent scratch, threads, what the pages claim, and random patterns and answers against an
-//! independent model. The last line is 'N passed, M failed'. Arguments: how many random patterns, and a seed.
+//! refusal, the last positions and the first past them, links by the hundred and counts at 2^63 by links, the letters that a verdict shows,
+//! answers short and long, where an answer goes wrong, calls one after another, lent scratch, threads, what the pages claim, and random
+//! patterns and answers against an independent model. The last line is 'N passed, M failed'. Arguments: how many random patterns, and a
+//! seed.
 
 mod library;
 mod model;
@@ -115,7 +116,7 @@ fn evidence(t: &mut Tally, pattern: &[u8], p: &model::Pattern, verdict: u8) {
         1 => {
             t.check(x.len() <= most && y.is_empty() && z.is_empty(), || format!("vet {}: lengths", show(pattern)));
             t.check(p.count_from_the_end(x, 2) >= 2, || format!("vet {}: {} has no two readings", show(pattern), show(x)));
-            lowest_for_two(t, pattern, p, x, &[], &[]);
+            first_for_two(t, pattern, p, x, &[], &[]);
         }
         _ => {
             t.check(x.len() <= n && !x.is_empty() && z.len() <= n && !y.is_empty() && y.len() <= most, || format!("vet {}: lengths", show(pattern)));
@@ -125,23 +126,22 @@ fn evidence(t: &mut Tally, pattern: &[u8], p: &model::Pattern, verdict: u8) {
                 t.check(p.count_from_the_end(&whole, 1 << 40) >= 1 << k, || format!("vet {}: fewer than 2^{k} readings", show(pattern)));
                 text.extend(y);
             }
-            lowest_for_two(t, pattern, p, x, y, z);
+            first_for_two(t, pattern, p, x, y, z);
         }
     }
 }
 
-/// There are two different readings over x y z, along which each letter is the lowest that both sets hold; for a runaway
-/// pattern both are at the first pivot after x and after y, and are one path in x and in z.
-fn lowest_for_two(t: &mut Tally, pattern: &[u8], p: &model::Pattern, x: &[u8], y: &[u8], z: &[u8]) {
+/// There are two different readings over x y z, along which each letter is the first, in the order of letters shown, that both sets hold; for
+/// a runaway pattern both are at the first pivot after x and after y, and are one path in x and in z.
+fn first_for_two(t: &mut Tally, pattern: &[u8], p: &model::Pattern, x: &[u8], y: &[u8], z: &[u8]) {
     let text = [x, y, z].concat();
     let Some(all) = p.readings(&text, 3000) else { return };
     let pivot = if y.is_empty() { 0 } else { p.first_pivot() };
     let (from, to) = (x.len(), x.len() + y.len());
-    let lowest = |a: usize, b: usize| p.positions[a - 1].letters.intersection(&p.positions[b - 1].letters).next().copied();
     let at_pivot = |a: &[model::Step], i: usize| a[i - 1].position == pivot;
     let fits = |a: &Vec<model::Step>, b: &Vec<model::Step>| {
         a != b
-            && (0..text.len()).all(|i| lowest(a[i].position, b[i].position) == Some(text[i]))
+            && (0..text.len()).all(|i| p.shown(a[i].position, b[i].position) == Some(text[i]))
             && (pivot == 0 || (a[..from] == b[..from] && a[to..] == b[to..] && at_pivot(a, from) && at_pivot(a, to) && at_pivot(b, to)))
     };
     t.check(all.iter().any(|a| all.iter().any(|b| fits(a, b))), || format!("vet {}: no two such readings of {}", show(pattern), show(&text)));
@@ -204,6 +204,202 @@ fn specimens(t: &mut Tally) {
         verdict_is(t, p, v);
     }
     refuses(t, b"a)", 5);
+}
+
+/// The texts that a verdict shows; none where there is a refusal.
+fn shown(pattern: &[u8]) -> Vec<Vec<u8>> {
+    match vet(pattern, EVIDENCE, 4) {
+        Ok(Vetted::Verdict { texts, .. }) => texts,
+        _ => Vec::new(),
+    }
+}
+
+/// A verdict shows exactly this: one text for a steady pattern, or x, y and z.
+fn shows(t: &mut Tally, pattern: &[u8], want: [&[u8]; 3]) {
+    let got: Vec<String> = shown(pattern).iter().map(|b| show(b)).collect();
+    t.same(got, want.map(show).to_vec(), &format!("vet {}, the texts shown", show(pattern)));
+}
+
+/// A letter as a class writes it.
+fn in_class(letter: u8) -> Vec<u8> {
+    if b"[]\\^-".contains(&letter) {
+        vec![b'\\', letter]
+    } else {
+        vec![letter]
+    }
+}
+
+/// The letters that a verdict shows: of those that serve the first of `a` to `z`, of `A` to `Z`, of `0` to `9`, and then of the others by
+/// code. For two paths side by side, in a steady text and in y, those that both sets hold; along one path, in x and z, those of its set.
+fn letters_shown(t: &mut Tally) {
+    // two sets side by side, in a text of one letter
+    let side_by_side: [(&[u8], u8); 70] = [
+        (b".|.", b'a'),
+        (b".*.*", b'a'),
+        (b".?.?", b'a'),
+        (b"[ -~]|.", b'a'),
+        (b"[a-z]|.", b'a'),
+        (b"[z~]|.", b'z'),
+        (b"[zA]|.", b'z'),
+        (b"[z0]|.", b'z'),
+        (b"[z ]|.", b'z'),
+        (b"[z\xe9]|.", b'z'),
+        (b"[^a]|.", b'b'),
+        (b"[^a-y]|.", b'z'),
+        // no small letter
+        (b"[A-Z]|.", b'A'),
+        (b"[A-Z0-9]|.", b'A'),
+        (b"[^a-z]|.", b'A'),
+        (b"[ -Z]|.", b'A'),
+        (b"[@-\\[]|.", b'A'),
+        (b"[Z0]|.", b'Z'),
+        (b"[Z9!]|.", b'Z'),
+        (b"[Z ]|.", b'Z'),
+        (b"[Z\\[]|.", b'Z'),
+        (b"[Z\xe9]|.", b'Z'),
+        (b"[^a-zA-Y]|.", b'Z'),
+        // nor a capital
+        (b"[0-9]|.", b'0'),
+        (b"[0-9 ]|.", b'0'),
+        (b"[!-9]|.", b'0'),
+        (b"[ -@]|.", b'0'),
+        (b"[^a-zA-Z]|.", b'0'),
+        (b"[9 ]|.", b'9'),
+        (b"[9!]|.", b'9'),
+        (b"[9:]|.", b'9'),
+        (b"[9~]|.", b'9'),
+        (b"[9\xa0]|.", b'9'),
+        (b"[^a-zA-Z0-8]|.", b'9'),
+        // nor a digit
+        (b"[^a-zA-Z0-9]|.", b' '),
+        (b"[ !]|.", b' '),
+        (b"[ \xe9]|.", b' '),
+        (b"[^a-zA-Z0-9 ]|.", b'!'),
+        (b"[!-/]|.", b'!'),
+        (b"[/:]|.", b'/'),
+        (b"[:-@]|.", b':'),
+        (b"[@\\[]|.", b'@'),
+        (b"[\\[-`]|.", b'['),
+        (b"[`{]|.", b'`'),
+        (b"[{-~]|.", b'{'),
+        (b"[\\]\\\\]|.", b'\\'),
+        (b"[\\^_]|.", b'^'),
+        (b"[.\\-]|.", b'-'),
+        // letters with accents, and the other codes from 160 on
+        (b"[~\xa0]|.", b'~'),
+        (b"[\xe9~]|.", b'~'),
+        (b"[\xe9\xe8]|.", 0xe8),
+        (b"[\xe9\xc9]|.", 0xc9),
+        (b"[\xe0-\xff]|.", 0xe0),
+        (b"[\xff\xbf]|.", 0xbf),
+        (b"[\xc0\xbf]|.", 0xbf),
+        (b"[^ -~]|.", 0xa0),
+        (b"[^ -~\xa0]|.", 0xa1),
+        // two sets of which neither is all
+        (b"[A-m]|[ -Z]", b'A'),
+        (b"[a-m ]|[n-z ]", b' '),
+        (b"[a-m]|[m-z]", b'm'),
+        (b"[a-m5!]|[n-z5!]", b'5'),
+        (b"[a-mZ5]|[n-zZ5]", b'Z'),
+        (b"[^a]|[^b]", b'c'),
+        (b"[^a-y]|[^z]", b'A'),
+        (b"[^A-Z]|[^a-z]", b'0'),
+        (b"[^0-9]|[!-@]", b'!'),
+        (b"[ -z]|[z-\xff]", b'z'),
+        (b"[ -Z]|[Z-\xff]", b'Z'),
+        (b"[ -9]|[9-@]", b'9'),
+        (b"[a-\xe9]|[\xe0-\xff]", 0xe0),
+    ];
+    for (pattern, letter) in side_by_side {
+        verdict_is(t, pattern, 1);
+        shows(t, pattern, [&[letter], b"", b""]);
+    }
+    // longer ones: where both readings are at one position, its set alone decides
+    let steady: [(&[u8], &[u8]); 10] = [
+        (b"(.|.)b", b"ab"),
+        (b".*.*x", b"ax"),
+        (b".(b|b)", b"ab"),
+        (b"[^a-z](b|b)[0-9!]", b"Ab0"),
+        (b"[A-Z0-9]{2}([0-9!]|[ -9])", b"AA0"),
+        (b"[ -/](b|b)[^ -~]", b" b\xa0"),
+        (b".*[0-9].*", b"00"),
+        (b".*[A-Z][0-9].*", b"A0A0"),
+        (b".*[ -/].*", b"  "),
+        (b".*because=3.*", b"becausebecause"),
+    ];
+    for (pattern, text) in steady {
+        verdict_is(t, pattern, 1);
+        shows(t, pattern, [text, b"", b""]);
+    }
+    // y may have another letter than x and z
+    let runaway: [(&[u8], &[u8], &[u8], &[u8]); 23] = [
+        (b"(.*)*", b"a", b"a", b""),
+        (b"(.*.*)*", b"a", b"a", b""),
+        (b"(.|.)*", b"a", b"aa", b""),
+        (b"(.|..)*", b"a", b"aaa", b""),
+        (b"(.*!)*", b"a", b"!a", b"!"),
+        (b"(.* )*", b"a", b" a", b" "),
+        (b"(.*[0-9])*", b"a", b"0a", b"0"),
+        (b"(.*because.*)*", b"a", b"becausea", b"because"),
+        (b"([^ ]+ ?)+", b"a", b"a", b""),
+        (b"([a-z]+ ?)+", b"a", b"a", b""),
+        (b"([^a-z]*)*", b"A", b"A", b""),
+        (b"([A-Z0-9]+ ?)+", b"A", b"A", b""),
+        (b"([0-9 ]+)+", b"0", b"0", b""),
+        (b"([!-/]+)+", b"!", b"!", b""),
+        (b"([\xe9\xe8~]+)+", b"~", b"~", b""),
+        (b"([^ -~]+)+", b"\xa0", b"\xa0", b""),
+        (b"([A-m]|[ -Z])*", b"a", b"Aa", b""),
+        (b"([a-m ]|[n-z ])*", b"a", b" a", b""),
+        (b"([^a]|[^b])*", b"b", b"cb", b""),
+        (b"([!-9]|[ -/])*", b"0", b"!0", b""),
+        (b"[0-9 ](b|b)*[Z0]", b"0b", b"bb", b"Z"),
+        (b"[^a-z](b|b)*[^a-zA-Z]", b"Ab", b"bb", b"0"),
+        (b"[z~][Z9!](b|b)*[9 ][\xe9~]", b"zZb", b"bb", b"9~"),
+    ];
+    for (pattern, x, y, z) in runaway {
+        verdict_is(t, pattern, 2);
+        shows(t, pattern, [x, y, z]);
+    }
+}
+
+/// Every class of two letters, every range, what two ranges share, and all letters from each on in the order: the letter shown, for two
+/// paths and along one.
+fn every_letter_shown(t: &mut Tally) {
+    let order: Vec<u8> = model::letters_as_shown().collect();
+    t.same(order.iter().copied().collect::<BTreeSet<u8>>(), model::letters().collect(), "the order has every letter");
+    t.same(order.len(), 191, "and each of them once");
+    t.same(show(&order[..64]), ('a'..='z').chain('A'..='Z').chain('0'..='9').chain([' ', '!']).collect(), "how it begins");
+    t.check(order[62..].windows(2).all(|w| w[0] < w[1]), || "the others are by code".into());
+    let first = |serves: &dyn Fn(u8) -> bool| *order.iter().find(|b| serves(**b)).unwrap();
+    let all: Vec<u8> = model::letters().collect();
+    let one_path = |t: &mut Tally, class: &[u8], b: u8| shows(t, &[class, b"(a|a)*", class].concat(), [&[b, b'a'], b"aa", &[b]]);
+    for (k, c) in all.iter().enumerate() {
+        for d in &all[k..] {
+            let (from, to) = (in_class(*c), in_class(*d));
+            // two letters
+            let b = first(&|b| b == *c || b == *d);
+            let class = [b"[", &to[..], &from, b"]"].concat();
+            shows(t, &[b"(", &class[..], b"|", &class, b")"].concat(), [&[b], b"", b""]);
+            one_path(t, &class, b);
+            // a range, and two that share it
+            let (b, alone) = (first(&|b| *c <= b && b <= *d), first(&|b| *c <= b));
+            one_path(t, &[b"[", &from[..], b"-", &to, b"]"].concat(), b);
+            let two = [b"[", &from[..], b"-\xff]|[ -", &to, b"]"].concat();
+            shows(t, &two, [&[b], b"", b""]);
+            shows(t, &[b"(", &two[..], b")*"].concat(), [&[alone], &[b, alone], b""]);
+        }
+    }
+    // all letters from one on in the order
+    for (k, b) in order.iter().enumerate() {
+        let list = |letters: &[u8]| letters.iter().flat_map(|c| in_class(*c)).collect::<Vec<u8>>();
+        let from = [b"[", &list(&order[k..])[..], b"]"].concat();
+        let but = [b"[^", &list(&order[..k])[..], b"]"].concat();
+        for class in [from, if k == 0 { b".".to_vec() } else { but }] {
+            shows(t, &[b".|", &class[..]].concat(), [&[*b], b"", b""]);
+            shows(t, &[b"(", &class[..], b"*)*"].concat(), [&[*b], &[*b], b""]);
+        }
+    }
 }
 
 /// The part with so many brackets around it, one in another, each with the repeat.
@@ -386,10 +582,7 @@ fn french_and_spanish(t: &mut Tally) {
     // x, y and z can have this letter alone
     for (pattern, letter) in [(&b"(\xe9|\xe9)*"[..], 0xe9), (b"([^ -~]*)*", 160), (b"([\xff\xf1]|[\xf1-\xfe])+", 0xf1), (b"([~-\xe9]+)+", b'~')] {
         verdict_is(t, pattern, 2);
-        let texts = match vet(pattern, EVIDENCE, 6) {
-            Ok(Vetted::Verdict { texts, .. }) => texts.concat(),
-            _ => Vec::new(),
-        };
+        let texts = shown(pattern).concat();
         t.check(!texts.is_empty() && texts.iter().all(|b| *b == letter), || format!("vet {}: shows {}", show(pattern), show(&texts)));
     }
     for (pattern, verdict) in [
@@ -1682,6 +1875,37 @@ fn one_random_case(t: &mut Tally, r: &mut Random, text: &[u8], vetted: bool) {
     }
 }
 
+/// Classes of several kinds of letters: what is shown is of each kind, for two paths and along one.
+fn random_classes(t: &mut Tally, patterns: usize, seed: u64) {
+    let mut r = Random::new(seed ^ 0x1e77e5);
+    let mut kinds = [[0; 5]; 2];
+    for k in 0..patterns {
+        let text = random::classes(&mut r);
+        one_random_case(t, &mut r, &text, k % 50 == 0);
+        let texts = shown(&text);
+        // a steady text is for two paths, as y is
+        for (n, letters) in texts.iter().enumerate() {
+            let one_path = n != 1 && !texts[1].is_empty();
+            for b in letters {
+                let kind = match b {
+                    b'a'..=b'z' => 0,
+                    b'A'..=b'Z' => 1,
+                    b'0'..=b'9' => 2,
+                    0..=126 => 3,
+                    _ => 4,
+                };
+                kinds[usize::from(one_path)][kind] += 1;
+            }
+        }
+    }
+    for (what, n) in ["for two paths", "along one"].iter().zip(kinds) {
+        println!("letters shown {what}: small {}, capital {}, digits {}, others to 126 {}, from 160 on {}", n[0], n[1], n[2], n[3], n[4]);
+        let least = (patterns / 20).saturating_sub(10);
+        t.check(n.iter().all(|n| *n >= least), || format!("letters shown {what}: too few of a kind, {n:?}"));
+    }
+    t.noted(patterns, "random classes");
+}
+
 /// Intervals that fill the positions up to the last, or pass it.
 fn random_copies(t: &mut Tally, patterns: usize, seed: u64) {
     let mut r = Random::new(seed ^ 0xc0b1e5);
@@ -1781,6 +2005,8 @@ fn main() {
     copies_by_regexec(&mut t);
     many_links(&mut t);
     counts_by_links(&mut t);
+    letters_shown(&mut t);
+    every_letter_shown(&mut t);
     letters_taken(&mut t);
     beginnings(&mut t, patterns / 5, seed);
     edges(&mut t);
@@ -1793,6 +2019,7 @@ fn main() {
     random_cases(&mut t, patterns, seed);
     random_rounds(&mut t, patterns / 10, seed);
     random_copies(&mut t, patterns / 10, seed);
+    random_classes(&mut t, patterns / 10, seed);
     println!("{} passed, {} failed", t.passed, t.failed);
     std::process::exit(i32::from(t.failed > 0));
 }

@@ -74,6 +74,14 @@ pub fn letters() -> impl Iterator<Item = u8> {
     (0..=255).filter(|b| is_letter(*b))
 }
 
+/// The letters up to code 126 in the order in which a verdict shows them.
+const SHOWN: &[u8] = b"abcdefghijklmnopqrstuvwxyzABCDEFGHIJKLMNOPQRSTUVWXYZ0123456789 !\"#$%&'()*+,-./:;<=>?@[\\]^_`{|}~";
+
+/// All letters in that order: those from code 160 on come last, by code.
+pub fn letters_as_shown() -> impl Iterator<Item = u8> {
+    SHOWN.iter().copied().chain(160..=255)
+}
+
 struct Parser<'a> {
     text: &'a [u8],
     at: usize,
@@ -433,6 +441,11 @@ impl Pattern {
     pub fn without_credits(&self, text: &[u8]) -> Vec<u8> {
         let credit = |k: usize| self.atoms.iter().any(|i| i.written.contains(&k));
         (0..text.len()).filter(|k| !credit(*k)).map(|k| text[k]).collect()
+    }
+
+    /// The letter shown for two positions side by side, or for one that is given twice: the first that both hold.
+    pub fn shown(&self, a: usize, b: usize) -> Option<u8> {
+        letters_as_shown().find(|c| self.holds(a, *c) && self.holds(b, *c))
     }
 
     fn follows(&self, a: usize, b: usize) -> bool {

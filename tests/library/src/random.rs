@@ -31,12 +31,13 @@ impl Random {
 }
 
 /// What a random pattern is made of: `wild` ones often break the grammar, `accented` ones have letters above code 159 too, `counted`
-/// ones have intervals.
+/// ones have intervals, and where there is something in `mixed`, classes are made of that.
 #[derive(Clone, Copy)]
 struct Kind {
     wild: bool,
     accented: bool,
     counted: bool,
+    mixed: &'static [&'static [u8]],
 }
 
 /// The letters that most random patterns are made of: few, so that sets overlap.
@@ -51,6 +52,15 @@ const ACCENTED_CLASSES: &[&[u8]] =
     &[b"[a\xe9]", b"[\xe0-\xff]", b"[\xa0-\xe9]", b"[b-\xe9]", b"[~-\xa0]", b"[^ -~]", b"[^\xe9]", b"[^a-\xe9]", b"[^\xe9-\xff]", b"[^b\xf1]"];
 const ACCENTED_WILD: &[&[u8]] =
     &[b"[ -\xff]", b"[^ -\xff]", b"[\xe9-a]", b"[\xff-\xe9]", b"[z-\x9f]", b"[\x7f-\xe9]", b"[a\x80]", b"[\xe9-]", b"[\\\xe9]", b"\\\xe9"];
+
+/// What classes of several kinds of letters are made of, four of each kind: small ones, capitals, digits, others to code 126, from 160 on.
+const ITEMS: &[&[u8]] = &[
+    b"a", b"z", b"b-y", b"a-z",
+    b"A", b"Z", b"B-Y", b"A-Z",
+    b"0", b"9", b"1-8", b"0-9",
+    b" ", b"!-/", b":-@", b"\\[-`~",
+    b"\xa0", b"\xe9", b"\xff", b"\xe0-\xff",
+];
 
 /// What a wild pattern may have for a credit. The grammar is broken, unless a digit comes right after `=` or `=-`.
 const NO_CREDITS: &[&[u8]] = &[b"=0", b"=", b"=-", b"=-0", b"=+1", b"=--1", b"=-1=1", b"=1=-1", b"=- 1", b"*=-1"];
@@ -113,9 +123,20 @@ fn range(r: &mut Random, out: &mut Vec<u8>, wild: bool) {
     out.push(b']');
 }
 
+/// A class of one to four of these, perhaps with `^`.
+fn class_of(r: &mut Random, out: &mut Vec<u8>, items: &[&[u8]]) {
+    out.extend(if r.chance(15) { &b"[^"[..] } else { b"[" });
+    for _ in 0..1 + r.below(4) {
+        out.extend(*r.pick(items));
+    }
+    out.push(b']');
+}
+
 fn lettered(r: &mut Random, out: &mut Vec<u8>, kind: Kind) {
     let wild = kind.wild;
-    if kind.accented && r.chance(50) {
+    if !kind.mixed.is_empty() && r.chance(85) {
+        class_of(r, out, kind.mixed);
+    } else if kind.accented && r.chance(50) {
         match r.below(if wild { 8 } else { 6 }) {
             0..=2 => out.push(*r.pick(ACCENTED)),
             3 | 4 => out.extend(*r.pick(ACCENTED_CLASSES)),
@@ -190,7 +211,7 @@ fn pattern_into(r: &mut Random, out: &mut Vec<u8>, depth: usize, kind: Kind) {
 /// A pattern that follows the grammar, most of the time; `wild` ones often do not. A fifth are accented, and two fifths have intervals.
 pub fn pattern(r: &mut Random, wild: bool) -> Vec<u8> {
     let mut out = Vec::new();
-    let kind = Kind { wild, accented: r.chance(20), counted: r.chance(40) };
+    let kind = Kind { wild, accented: r.chance(20), counted: r.chance(40), mixed: &[] };
     let depth = r.below(if kind.counted { 3 } else { 4 });
     pattern_into(r, &mut out, depth, kind);
     out.truncate(520);
@@ -207,10 +228,19 @@ pub fn pattern(r: &mut Random, wild: bool) -> Vec<u8> {
     out
 }
 
+/// A pattern in which most atoms are classes of several kinds of letters: of all kinds, or of the last ones.
+pub fn classes(r: &mut Random) -> Vec<u8> {
+    let mut out = Vec::new();
+    let kind = Kind { wild: false, accented: false, counted: r.chance(30), mixed: &ITEMS[4 * r.below(5)..] };
+    let depth = r.below(3);
+    pattern_into(r, &mut out, depth, kind);
+    out
+}
+
 /// Repeats in repeats around a pattern, so that an answer may have many rounds.
 pub fn rounds(r: &mut Random) -> Vec<u8> {
     let mut out = vec![b'('];
-    let kind = Kind { wild: false, accented: r.chance(20), counted: r.chance(30) };
+    let kind = Kind { wild: false, accented: r.chance(20), counted: r.chance(30), mixed: &[] };
     let depth = r.below(2);
     nested(r, &mut out, depth, kind);
     out.extend(b")*");
@@ -220,7 +250,7 @@ pub fn rounds(r: &mut Random) -> Vec<u8> {
 /// As many copies of a small pattern as there are positions for, or some less, or one copy too many; in one interval or in two, one in the
 /// other, perhaps with a repeat around, and letters after it up to the last position.
 pub fn copies(r: &mut Random) -> Vec<u8> {
-    let kind = Kind { wild: false, accented: r.chance(20), counted: r.chance(40) };
+    let kind = Kind { wild: false, accented: r.chance(20), counted: r.chance(40), mixed: &[] };
     let mut small = Vec::new();
     let depth = r.below(2);
     pattern_into(r, &mut small, depth, kind);
