@@ -1,5 +1,5 @@
--- The order of the letters: what the first letter of a set is, and the sets of the ranges. A range of codes below 127 is a run of slots
--- in one word. Assumes nothing.
+-- The order of the letters: what the first letter of a set is, how a range decides it, and the sets of the ranges. In each word a range
+-- of codes below 128 is a run of bits. Assumes nothing.
 use mathlib.Core.Path.{_≡_, sym, ap, ap₂, _∙_}
 use mathlib.Core.Logic.{⊎-elim}
 use mathlib.Core.Bool.{Bool, true, false, not, _&&_, true≢false, false≢true}
@@ -118,6 +118,9 @@ module _ (r : Range) where
       ∙ ap₂ (λ (x y : Bool). x && not y) (has-ones (end base) i) (has-ones (begin base) i)
       ∙ ap (λ (x : Bool). ltb i (end base) && x) (not-less i (begin base))
 
+  ends : (c : ℕ) → inRange r c ≡ true → (r .from ≤ c) × (c ≤ r .to)
+  ends c e = let p = and-parts (leb (r .from) c) (leb c (r .to)) e in (leb-true (r .from) c (p .0), leb-true c (r .to) (p .1))
+
   module _ (first : 32 ≤ r .from) (last : r .to < 128) where
     -- codes of slots from 96 on are past the range, and below that codes are slots moved on by 32
     at : (base i : ℕ) → i < 64 → hasBit (word base) i ≡ inRange r (codeAt (base + i))
@@ -133,9 +136,8 @@ module _ (r : Range) where
         (λ _ is. and-of (leb (r .from) c) (leb c (r .to)) (le-leb (r .from) c (omega arith)) (le-leb c (r .to) (omega arith)))
         (λ far is. absurd (omega arith)))
         (λ e.
-        let p = and-parts (leb (r .from) c) (leb c (r .to)) e in
-        let low = leb-true (r .from) c (p .0) in
-        let high = leb-true c (r .to) (p .1) in
+        let low = ends c e .0 in
+        let high = ends c e .1 in
         by-slot ((ltb i (end base) && leb (begin base) i) ≡ true) (base + i)
         (λ _ is. and-of (ltb i (end base)) (leb (begin base) i) (lt-ltb i (end base) (omega arith)) (le-leb (begin base) i (omega arith)))
         (λ far is. absurd (omega arith)))
@@ -145,7 +147,6 @@ module _ (r : Range) where
         by-words record { low = word 0; middle = word 64; high = word 128 } (inRange r) (at 0) (at 64) (at 128) c
         ∙ same-test (hasSlot c && inRange r c) (inRange r c) (λ e. and-parts (hasSlot c) (inRange r c) e .1)
         (λ e.
-        let p = and-parts (leb (r .from) c) (leb c (r .to)) e in
-        let low = leb-true (r .from) c (p .0) in
-        let high = leb-true c (r .to) (p .1) in
+        let low = ends c e .0 in
+        let high = ends c e .1 in
         and-of (hasSlot c) (inRange r c) (has-low c (omega arith) (omega arith)) e)

@@ -104,7 +104,7 @@ runaway-can-show b a = Bounds.runaway-can (patternGraph b) (trim b a)
 pub runaway-texts-double : (b x y z : List ℕ) → patternRefusal b ≡ 0 → ShowsRunaway (patternGraph b) x y z → (k : ℕ) → 2 ^ k ≤ readings (patternGraph b) (x ++ (times k y ++ z))
 runaway-texts-double b x y z a = Bounds.runaway-shown (patternGraph b) x y z
 
--- The letter shown where two paths come to the positions i and j, one path being taken twice: both sets hold it,
+-- The letter shown where two paths come to the positions i and j, or one path to i, and j is i: both sets hold it,
 pub letter-shown-serves : (b : List ℕ) (i j : ℕ) → patternRefusal b ≡ 0 → shares (patternGraph b) i j ≡ true → bothHold (patternGraph b) i j (letterShown (patternGraph b) i j) ≡ true
 letter-shown-serves b i j a h = Order.first-letter (bothHold (patternGraph b) i j) h .1
 
