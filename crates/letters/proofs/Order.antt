@@ -10,7 +10,6 @@ use native.Mathlib.Omega.{arith}
 use lib.Dec.{leb, ltb}
 use lib.Bits.{bitAnd}
 use borrow.Author.Tests.{leb-true, ltb-true, le-leb, lt-ltb}
-use Rattle.basics.specs.Choice.{if_then_else_}
 use Rattle.basics.proofs.Tests.{and-parts, and-of, same-test, not-less, by-test, if-yes, if-no, if-either, le-or-lt}
 use Rattle.bits.specs.Bits.{hasBit}
 use Rattle.bits.proofs.Laws.{has-minus, has-ones}

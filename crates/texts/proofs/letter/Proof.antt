@@ -1,7 +1,5 @@
 -- The set of both holds just what the two share, so its first letter is theirs. Assumes nothing.
-use mathlib.Core.Path.{_≡_, sym, ap, _∙_}
-use mathlib.Core.Bool.{true}
-use Prim.Native.Nat.{ℕ}
+use mathlib.Core.Path.{sym, ap, _∙_}
 use borrow.Author.Needs.{needs}
 use Rattle.basics.proofs.Tests.{and-parts}
 use Rattle.letters.specs.LetterSet.{hasLetter}
