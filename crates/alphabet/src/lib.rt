@@ -1,4 +1,6 @@
 // The letters, of ISO 8859-1. What depends on which codes are letters stands here, and in the words of a set (`letters`, `ranges`).
+#![tactic(auto)]
+
 ghost use Rattle.std.specs.Prelude.{◌≡◌, ◌&&◌, ◌<◌, ◌≤◌, leb, length};
 ghost use Rattle.alphabet.specs.Alphabet.{is_letter, all_letters};
 ghost use Rattle.alphabet.specs.Flipped.{Flipped};

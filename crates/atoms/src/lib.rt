@@ -1,5 +1,7 @@
 // Lettered atoms: one letter, `.` or a class, and the credit after it. Every function takes any bytes and any place, and past
 // the end of the text there is no atom.
+#![tactic(auto)]
+
 ghost use Rattle.std.specs.Prelude.{◌≡◌, true, false, List, [], ◌∷◌, ℕ, drop};
 ghost use Rattle.basics.specs.Bytes.{is_in};
 ghost use Rattle.pattern.specs.Parts.{item as anItem};
@@ -12,7 +14,7 @@ use letters::LetterSet;
 
 // A lettered atom that was read: where it ends, its letters, whether it has none, whether a range of it is reversed, and its
 // credit, raised by 9, so that it has no sign. Where `good` is false there is none, and the rest means nothing.
-#[derive(Drop)]
+#[derive(Clone, Copy)]
 pub struct Lettered {
     pub good: bool,
     pub at: usize,
@@ -119,7 +121,7 @@ fn with_credit(s: &[u8], n: Named) -> Lettered
 
 // A credit that was read: where it ends, and what it is, raised by 9. Where `good` is false the grammar is broken, and the rest
 // means nothing.
-#[derive(Drop)]
+#[derive(Clone, Copy)]
 struct CreditRead {
     good: bool,
     at: usize,

@@ -1,5 +1,7 @@
 // Sets of the numbers 0 to 63 in a u64: the number i is a member where bit i is 1, and 0 is the empty set.
 // Every contract says of each number j, also of those past 63, whether the result has it.
+#![tactic(auto)]
+
 ghost use Rattle.std.specs.Prelude.{◌≡◌, not, ◌&&◌, ◌||◌, ℕ, ◌-◌, ◌<◌, ◌≤◌, eqb, ltb, leb};
 ghost use Rattle.basics.specs.Folds.{Less};
 ghost use Rattle.bits.specs.Bits.{has_bit, Least};

@@ -1,4 +1,6 @@
 // The interval after an atom, from the byte after its `{` on. Every function takes any bytes and any place.
+#![tactic(auto)]
+
 ghost use Rattle.std.specs.Prelude.{◌≡◌, false, ◌≤◌, drop};
 ghost use Rattle.pattern.specs.Parts.{out_of_bounds};
 ghost use Rattle.pattern.specs.Grammar.{is_digit, read_interval};
@@ -6,7 +8,7 @@ ghost use Rattle.bounds.specs.Bounds.{bounds_of, up_to, ReadsMore, ReadsBound, R
 
 // An interval that was read: where it ends, its lower bound, and its upper bound where it is not endless. Where `good` is false
 // there is none, and the rest means nothing.
-#[derive(Drop)]
+#[derive(Clone, Copy)]
 pub struct IntervalRead {
     pub good: bool,
     pub at: usize,
@@ -80,7 +82,7 @@ fn none() -> IntervalRead
 }
 
 // A bound that is being read: its value so far, and where it goes on.
-#[derive(Drop)]
+#[derive(Clone, Copy)]
 struct BoundRead {
     at: usize,
     value: usize,

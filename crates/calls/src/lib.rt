@@ -1,5 +1,7 @@
 // The two calls: vet a pattern, mark an answer. Neither has a `requires`: each tests its input itself, and what it gives is
 // said for all input. Each lends reading a table of 61 * 61 numbers, in which it counts links.
+#![tactic(auto)]
+
 ghost use Rattle.std.specs.Prelude.{◌≡◌, pos};
 ghost use Rattle.calls.specs.Marking.{MarkSays};
 ghost use Rattle.calls.specs.Vetting.{VetSays, refused};

@@ -1,5 +1,7 @@
 // Copies of a part, one after the other. The part just read has positions of its own, the last ones so far, and links among these
 // alone; so a copy of it is its rows and its numbers of links, moved on, and the copies are joined as pieces are.
+#![tactic(auto)]
+
 ghost use Rattle.std.specs.Prelude.{◌≡◌, ◌+◌, ◌-◌, ◌*◌, ◌<◌, ◌≤◌, length};
 ghost use Rattle.links.specs.Rows.{Room};
 ghost use Rattle.chains.specs.Chains.{NextRows, Copied, NextPart, Chains};

@@ -1,4 +1,6 @@
 // Classes of letters in `[ ]`: their items, each one letter or a range. Every function takes any bytes and any place.
+#![tactic(auto)]
+
 ghost use Rattle.std.specs.Prelude.{◌≡◌, [], ℕ, ◌-◌, ◌<◌, length, drop};
 ghost use Rattle.basics.specs.Bytes.{is_in};
 ghost use Rattle.pattern.specs.Grammar.{class_special, items_from, read_class};
@@ -7,7 +9,7 @@ ghost use Rattle.classes.specs.Classes.{ReadsClassLetter, no_more, ReadsItem, Re
 use letters::LetterSet;
 
 // The letters of an atom, read up to its credit: the place after them, and whether a range is reversed.
-#[derive(Drop)]
+#[derive(Clone, Copy)]
 pub struct Named {
     pub good: bool,
     pub at: usize,
@@ -61,7 +63,7 @@ fn items(s: &[u8], at: usize) -> Named
 
 // An item of a class: the first and the last of its letters, and the place after it. Where there is no more, `closed` says
 // whether the class ends here, and then `at` is the place after its end.
-#[derive(Drop)]
+#[derive(Clone, Copy)]
 struct OneItem {
     more: bool,
     closed: bool,
@@ -115,7 +117,7 @@ fn no_more(closed: bool, at: usize) -> OneItem
 }
 
 // A class letter and the place after it.
-#[derive(Drop)]
+#[derive(Clone, Copy)]
 struct ClassLetter {
     good: bool,
     code: u8,

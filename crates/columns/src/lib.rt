@@ -1,5 +1,7 @@
 // What marking looks up at each letter: for each position the states before it, and for each letter the positions that
 // hold it. Both tables are a built pattern's, turned round: a row is walked member by member, and its number put into each entry.
+#![tactic(auto)]
+
 ghost use Rattle.std.specs.Prelude.{ℕ, ◌<◌, ◌≤◌, ◌+◌, ◌^◌, length, get_or};
 ghost use Rattle.bits.specs.Bits.{has_bit};
 ghost use Rattle.letters.specs.LetterSet.{has_letter, set_at, OnlyLetters};

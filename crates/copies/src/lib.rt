@@ -1,4 +1,6 @@
 // Tables of which a stretch is copied on: what stands in it, so many entries further on, and again after that, up to an end.
+#![tactic(auto)]
+
 ghost use Rattle.std.specs.Prelude.{◌≡◌, ◌+◌, ◌<◌, ◌≤◌, length};
 ghost use Rattle.copies.specs.Copies.{Repeats, Same, Moved};
 

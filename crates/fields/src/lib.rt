@@ -1,4 +1,6 @@
 // The fields of a line, put into a slice from byte `at` on: each function gives the place after what it put.
+#![tactic(auto)]
+
 ghost use Rattle.std.specs.Prelude.{[], ◌∷◌, ◌++◌, ◌+◌, ◌≤◌, ◌<◌, length};
 ghost use Rattle.fields.specs.Fields.{decimal, fields, result_line, Puts};
 

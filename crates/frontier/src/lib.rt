@@ -1,6 +1,8 @@
 // Rows of counts and credits over the states of a graph, for marking. A row has an entry for each state, 61 counts and 61 credits,
 // from an offset on in two slices, and a set of the states that are possible: an entry of any other state means nothing. Counts stop
 // at 2^63. The slices may be memory that a caller lends: no contract asks what is in it.
+#![tactic(auto)]
+
 ghost use Rattle.std.specs.Prelude.{◌≡◌, ℕ, suc, ◌+◌, ◌*◌, ◌%◌, ◌^◌, ◌<◌, ◌≤◌, min, max, true, length};
 ghost use Rattle.frontier.specs.Rows.{cell, stored, count_of, most_of, weighted, Outside, Stepped};
 
@@ -46,7 +48,7 @@ pub fn step(
 }
 
 // Counts taken together, and the greatest of some credits.
-#[derive(Drop)]
+#[derive(Clone, Copy)]
 pub struct Sum {
     pub count: u64,
     pub most: u32,

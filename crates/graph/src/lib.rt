@@ -1,5 +1,7 @@
 // The graph of a pattern's positions as marking and vetting get it: the built pattern. What a reading, a count and a mark
 // are in such a graph is said in specs/.
+#![tactic(auto)]
+
 use letters::LetterSet;
 
 // A pattern of up to 60 positions, by value. Entry i of each array is position i's, and entry 0 that of the state before any
@@ -8,7 +10,7 @@ use letters::LetterSet;
 // states at which a reading may end, with 0 where the pattern can be empty. Numbers past `positions` are in no set, and hold and
 // earn nothing. How many links lead from a state to a position does not fit in here: those beyond the first are counted in a
 // table beside it, and `doubled` says whether there is any.
-#[derive(Drop)]
+#[derive(Clone, Copy)]
 pub struct Built {
     pub positions: usize,
     pub follow: [u64; 61],

@@ -1,5 +1,7 @@
 // Sets of letters. The contract of a set says of each code c, letter or not, whether the set has it, and only the lowest
 // letter, the rest and the first letter in order ask that the set is not empty.
+#![tactic(auto)]
+
 ghost use Rattle.std.specs.Prelude.{◌≡◌, true, false, not, ◌&&◌, ◌||◌, ℕ, ◌<◌};
 ghost use Rattle.basics.specs.Folds.{Less};
 ghost use Rattle.alphabet.specs.Alphabet.{is_letter};
@@ -9,7 +11,7 @@ ghost use Rattle.letters.specs.Order.{in_range, small, capital, digit, first_let
 // A set has 192 slots, a bit each: 0 to 63 are those of `low`, then come those of `middle` and of `high`. The codes 32 to 127 have the
 // slots 0 to 95, and 160 to 255 have 96 to 191. All of these are letters but 127, slot 95: the functions that make a set
 // leave it out. Besides this crate only `ranges` and `set_table` use the three fields.
-#[derive(Drop)]
+#[derive(Clone, Copy)]
 pub struct LetterSet {
     pub low: u64,
     pub middle: u64,

@@ -1,5 +1,7 @@
 // What the program `vet` writes, line by line: a run through an input starts with `begin`, and each call of `next_line` puts a line.
 // No public function has a `requires`. That all lines together are the output is `run_is_output` of proofs/Written.antt.
+#![tactic(auto)]
+
 ghost use Rattle.std.specs.Prelude.{◌≡◌, ◌+◌, ◌≤◌, ◌<◌, length};
 ghost use Rattle.io.specs.Counts.{IsPrefixLen};
 ghost use Rattle.fields.specs.Fields.{Puts};
@@ -7,7 +9,7 @@ ghost use Rattle.lines.specs.Lines.{line_of, EndsAt, start, HasLine, PatternLine
 
 // Where a run through an input stands: the byte from which and the number with which it goes on, and the length of the line that
 // it has just put.
-#[derive(Drop)]
+#[derive(Clone, Copy)]
 pub struct Run {
     pub from: usize,
     pub number: u64,

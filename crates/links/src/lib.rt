@@ -1,5 +1,7 @@
 // Sets and rows of positions: row a has the positions that may follow position a. There is room for positions up to 60; those past
 // 60 are counted only. A lent table has the numbers of links: entry 61 * a + b is how many lead from a to b beyond the first.
+#![tactic(auto)]
+
 ghost use Rattle.std.specs.Prelude.{◌≡◌, ◌&&◌, ◌||◌, ℕ, ◌<◌, ◌^◌, eqb, length};
 ghost use Rattle.bits.specs.Bits.{has_bit};
 ghost use Rattle.links.specs.Rows.{further, Marks, Linked, Room, Further, LinksMore};

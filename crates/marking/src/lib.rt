@@ -1,5 +1,7 @@
 // The calls for C: those of `calls`, which clients in Rattle find here too, with one number for the result. No call has a
 // `requires`: each tests its input itself, and what it gives is said for all input.
+#![tactic(auto)]
+
 ghost use Rattle.std.specs.Prelude.{◌≡◌, ◌<◌, ◌^◌};
 ghost use Rattle.marking.specs.ForC.{MarkForC, VetForC, VetAlone};
 ghost use Rattle.marking.specs.Packing.{bits32, vet_packed};

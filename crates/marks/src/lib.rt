@@ -1,5 +1,7 @@
 // Marking: the number of readings of an answer, its best credit and how many of its letters are taken, forward over the letters, by
 // two rows in turn.
+#![tactic(auto)]
+
 ghost use Rattle.std.specs.Prelude.{◌≡◌, false, ℕ, ◌<◌, ◌≤◌, ◌*◌, ◌^◌, length, get_or};
 ghost use Rattle.graph.specs.Graph.{Bounded, SingleLinks};
 ghost use Rattle.graph.specs.Built.{graph_of_built};
@@ -12,7 +14,7 @@ use graph::Built;
 // What marking gives: the refusal, or 0 and the number of readings, 2^63 where it is that or more, the most credit that one
 // earns, which may be below zero, 0 where there is none, and how many letters were taken: up to and with the first after which no
 // state is possible, or all. By a built pattern no answer is refused.
-#[derive(Drop)]
+#[derive(Clone, Copy)]
 pub struct Marked {
     pub refusal: u8,
     pub count: u64,
@@ -67,7 +69,7 @@ fn mark_of_sum(sum: Sum, letters: usize) -> i32
 }
 
 // What the rows come to, and after how many letters.
-#[derive(Drop)]
+#[derive(Clone, Copy)]
 struct End {
     sum: Sum,
     taken: usize,

@@ -1,6 +1,8 @@
 // The nodes of a search and the steps between them. A node is two paths side by side over one text, in the graph of a pattern's
 // positions, as a number: below 64 a state, where both paths are and have not parted; a * 64 + b, with 1 <= b <= a, where they
 // have parted and are now at a and b. Paths part where they come to different positions, or to one by different links.
+#![tactic(auto)]
+
 ghost use Rattle.std.specs.Prelude.{◌≡◌, true, not, ◌&&◌, ◌||◌, ℕ, ◌≤◌, ◌<◌, eqb};
 ghost use Rattle.bits.specs.Bits.{has_bit};
 ghost use Rattle.nodes.specs.Nodes.{IsNode, pack, RowOf, PartnersOf, FindsPair, Finds, TakenUp};
@@ -9,7 +11,7 @@ ghost use Rattle.nodes.specs.Nodes.{IsNode, pack, RowOf, PartnersOf, FindsPair, 
 pub const NONE: usize = 4096;
 
 // A node, or NONE, and what is still to be looked at: a pair that is not taken up has its first path at a position of `pending`.
-#[derive(Drop)]
+#[derive(Clone, Copy)]
 pub struct Next {
     pub node: usize,
     pub pending: u64,

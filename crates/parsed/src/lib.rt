@@ -1,5 +1,7 @@
 // A part of a pattern as it is parsed: what is kept of it, and what becomes of that where it is repeated, where a branch or a
 // piece more is read, and where an atom is stored in the tables.
+#![tactic(auto)]
+
 ghost use Rattle.std.specs.Prelude.{◌≡◌, ℕ, ◌≤◌, ◌<◌, min, length, drop};
 ghost use Rattle.pattern.specs.Grammar.{read_letter};
 ghost use Rattle.links.specs.Rows.{Room};
@@ -10,7 +12,7 @@ ghost use Rattle.parsed.specs.Parsed.{Memory, Letters, Changes, Repeats, nothing
 // 60; whether the part can be empty, its firsts and its lasts; whether an atom of it has a reversed range, or no letter; whether
 // refusal 11 names an interval of it; whether two positions of it were linked more than once. Where `good` is false the rest means
 // nothing, and where there are more than 60 positions `empty`, `firsts`, `lasts` and `doubled` do not.
-#[derive(Drop)]
+#[derive(Clone, Copy)]
 pub struct Parsed {
     pub good: bool,
     pub at: usize,

@@ -2,6 +2,8 @@
 // goes through them from left to right: the rows of what may follow by value, so that each call gives them back with its own
 // links, and the tables of letters, of credits and of links beyond the first, which are lent and filled as the atoms are read.
 // Patterns and branches are folded from the left: one part has been read, and the next is joined to it.
+#![tactic(auto)]
+
 ghost use Rattle.std.specs.Prelude.{◌≡◌, ◌&&◌, [], ◌≤◌, drop};
 ghost use Rattle.pattern.specs.Grammar.{goes_on, pattern_from, branch_from};
 ghost use Rattle.links.specs.Rows.{NoneCounted, Room};
@@ -12,7 +14,7 @@ ghost use Rattle.parts.specs.Parsing.{Parses, ParsesAll, atom_from, bar_next, Op
 use parsed::Parsed;
 
 // A part, and the rows with its links: row a has what may follow position a, and row 0 is not used.
-#[derive(Drop)]
+#[derive(Clone, Copy)]
 pub struct ParsedRows {
     pub part: Parsed,
     pub rows: [u64; 61],

@@ -1,4 +1,6 @@
 // A byte of a text by its place.
+#![tactic(auto)]
+
 ghost use Rattle.std.specs.Prelude.{◌≡◌, drop};
 ghost use Rattle.pattern.specs.Grammar.{peek};
 

@@ -1,4 +1,6 @@
 // The sets of the letters from one code to another, and of one letter alone.
+#![tactic(auto)]
+
 ghost use Rattle.std.specs.Prelude.{◌≡◌, ◌&&◌, ℕ, ◌<◌, ◌≤◌, ◌+◌, eqb, ltb, leb};
 ghost use Rattle.alphabet.specs.Alphabet.{is_letter};
 ghost use Rattle.bits.specs.Bits.{has_bit};

@@ -1,4 +1,6 @@
 // Reading a pattern: its refusal, or the built pattern. `read` takes any bytes.
+#![tactic(auto)]
+
 ghost use Rattle.std.specs.Prelude.{◌≡◌, ◌≤◌, length};
 ghost use Rattle.set_table.specs.Table.{table_size};
 ghost use Rattle.links.specs.Rows.{NoneCounted, Room};
@@ -9,7 +11,7 @@ use parts::ParsedRows;
 
 // A pattern that was read: the number of the first refusal, of 3 to 7, 11 and 8, that applies to it, and an empty built pattern; or 0,
 // and the built pattern.
-#[derive(Drop)]
+#[derive(Clone, Copy)]
 pub struct ReadPattern {
     pub refusal: u8,
     pub built: Built,

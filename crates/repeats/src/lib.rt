@@ -1,5 +1,7 @@
 // What comes after an atom: `?`, `*`, `+` or an interval, which is written out in copies, each with letters, credits and links of its
 // own.
+#![tactic(auto)]
+
 ghost use Rattle.std.specs.Prelude.{◌≡◌, true, length};
 ghost use Rattle.pattern.specs.Grammar.{repeated};
 ghost use Rattle.bounds.specs.Bounds.{bounds_of};

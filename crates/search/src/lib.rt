@@ -1,5 +1,7 @@
 // A search, breadth first, from a state to a goal, over the nodes and steps of crate `nodes`, in lent memory. One from each position
 // finds the first pivot. The steps of a search, and what it holds between them, are private.
+#![tactic(auto)]
+
 ghost use Rattle.std.specs.Prelude.{◌≡◌, List, ℕ, ◌≤◌, ◌<◌, length, replicate};
 ghost use Rattle.graph.specs.Graph.{Graph};
 ghost use Rattle.verdict.specs.Verdict.{first_pivot};
@@ -9,7 +11,7 @@ ghost use Rattle.shares.specs.Tables.{Rows, Doubles, Shares};
 // A search under way. `head` and `tail` bound the queue of nodes taken up whose steps are still to be gone through. `alone` has the
 // states taken up. The pairs taken up are in rows beside it, `seen`, which are lent and not copied. Of the pairs one step on from the
 // head, those whose first path is at a position outside `pending` are taken up already.
-#[derive(Drop)]
+#[derive(Clone, Copy)]
 pub struct Search {
     head: usize,
     pub tail: usize,
@@ -19,7 +21,7 @@ pub struct Search {
 }
 
 // Where a search is to end: a parted pair in `mask`, or for a search of one path a state in it.
-#[derive(Drop)]
+#[derive(Clone, Copy)]
 pub struct Goal {
     pub mask: u64,
     pub parted: bool,

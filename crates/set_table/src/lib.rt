@@ -1,5 +1,7 @@
 // A table of sets, one for each of the numbers 0 to 60, as words: so it can be lent as a slice. Entry i is the words 3 i,
 // 3 i + 1 and 3 i + 2. Nothing outside this crate reads the words.
+#![tactic(auto)]
+
 ghost use Rattle.std.specs.Prelude.{◌≡◌, false, ◌&&◌, ℕ, ◌+◌, ◌<◌, ◌≤◌, leb, length};
 ghost use Rattle.letters.specs.LetterSet.{has_letter, set_at};
 ghost use Rattle.set_table.specs.Table.{table_size, set_in, Writes, Repeats};

@@ -1,5 +1,7 @@
 // The tables that a search goes by, in rows of a word for each position: what may come next, which a built pattern has, and what
 // shares a letter with it, and where two links or more lead from a state, which are made here.
+#![tactic(auto)]
+
 ghost use Rattle.std.specs.Prelude.{◌≡◌, true, false, ◌&&◌, ℕ, ◌+◌, ◌*◌, ◌≤◌, ltb, length, get_or};
 ghost use Rattle.bits.specs.Bits.{has_bit};
 ghost use Rattle.alphabet.specs.Alphabet.{some_letter, is_letter};

@@ -1,5 +1,7 @@
 // The text of the way to a goal: a search from a state, and the letters shown of the nodes on the way to what it finds, written
 // from the last one to the first.
+#![tactic(auto)]
+
 ghost use Rattle.std.specs.Prelude.{◌≡◌, true, ◌&&◌, ℕ, ◌+◌, ◌≤◌, ◌<◌, length, get_or};
 ghost use Rattle.alphabet.specs.Alphabet.{is_letter, some_letter};
 ghost use Rattle.letters.specs.LetterSet.{has_letter, OnlyLetters};

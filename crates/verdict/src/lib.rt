@@ -1,1 +1,3 @@
 // Verdicts: two paths side by side, pivots, and what a verdict shows. There is no code here yet.
+
+#![tactic(auto)]

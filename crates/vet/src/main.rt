@@ -1,5 +1,7 @@
 // The program: reads patterns, a line each, and writes what vetting each gives. It only reads, repeats and writes: what the lines
 // are, and that they are all, `lines` promises of every run from `begin` on until it is over.
+#![tactic(auto)]
+
 ghost use Rattle.std.specs.Prelude.{◌≡◌, length};
 
 // Room for the longest input, and a byte more, which shows that it is too long.

@@ -1,5 +1,7 @@
 // The verdict of a pattern, by search. The search for the first pivot decides whether it is runaway; one more decides between single
 // and steady; and the way to a goal is the text that shows the verdict.
+#![tactic(auto)]
+
 ghost use Rattle.std.specs.Prelude.{◌≡◌, ◌≤◌, ◌<◌, length};
 ghost use Rattle.graph.specs.Built.{graph_of_built};
 ghost use Rattle.verdict.specs.Verdict.{first_pivot};
@@ -12,7 +14,7 @@ use search::Goal;
 // What vetting gives: the refusal, or 0 and the verdict (0 single, 1 steady, 2 runaway), the number of positions, and the
 // lengths of the texts at the beginning of the evidence: of a steady pattern a text with two readings; of a runaway one a way to
 // its first pivot, a text with two loops there, and a way to an end. A built pattern is never refused.
-#[derive(Drop)]
+#[derive(Clone, Copy)]
 pub struct Vetted {
     pub refusal: u8,
     pub verdict: u8,

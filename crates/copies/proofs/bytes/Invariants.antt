@@ -1,0 +1,13 @@
+-- The entries up to i have their copies. The measure is how many are left. Assumes nothing.
+use mathlib.Core.Path.{◌≡◌, refl, subst}
+use Prim.Native.Nat.{ℕ, ◌-◌, ◌≤◌}
+use native.Mathlib.Omega.{arith}
+use Rattle.copies.specs.Copies.{Repeats, Same}
+use Rattle.copies.proofs.Copying.{repeats_none, repeats_more}
+use Rattle.copies.proofs.bytes.Given as goal
+
+abbrev pub invariant-loop-i : goal.invariant-loop-i
+invariant-loop-i l = (l.from ≤ l.i) × (l.i ≤ l.to) × Repeats Same l.from l.i l.by l.initial.table l.table
+
+abbrev pub decreases-loop-i : goal.decreases-loop-i
+decreases-loop-i l = l.to - l.i

@@ -1,0 +1,12 @@
+-- The slot's half says what to add. Assumes nothing.
+use mathlib.Core.Path.{sym}
+use native.Mathlib.Omega.{arith}
+use borrow.Author.Rules.{rules}
+use Rattle.letters.proofs.Slots.{code_low, code_high}
+use Rattle.letters.proofs.code_at.Goals as goal
+
+pub returns-then-slot-lt96 : goal.returns-then-slot-lt96
+returns-then-slot-lt96 c = sym (code_low c.args.slot (omega arith))
+
+pub returns : goal.returns
+returns c = sym (code_high c.args.slot (omega arith))

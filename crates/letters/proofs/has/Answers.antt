@@ -1,0 +1,25 @@
+-- The code has a slot in the one half or in the other, or none. Assumes nothing.
+use mathlib.Core.Path.{sym, ap, ◌∙◌}
+use Prim.Native.Nat.{◌-◌}
+use native.Mathlib.Omega.{arith}
+use borrow.Author.Rules.{rules}
+use Rattle.letters.specs.LetterSet.{in_slot}
+use Rattle.letters.proofs.Slots.{has_low, has_high, no_slot, slot_low, slot_high}
+use Rattle.letters.proofs.Sets.{not_in, is_in_its_slot}
+use Rattle.letters.proofs.has.Goals as goal
+
+pub returns-then-code-lt32 : goal.returns-then-code-lt32
+returns-then-code-lt32 c = let a = c.args in sym (not_in a.s a.code (no_slot a.code (λ l h. omega arith) (λ l h. omega arith)))
+
+pub returns-then-code-lt128 : goal.returns-then-code-lt128
+returns-then-code-lt128 c =
+    let a = c.args in
+    c.has_at.ensures ∙ sym (is_in_its_slot a.s a.code (has_low a.code (omega arith) (omega arith)) ∙ ap (in_slot a.s) (slot_low a.code (omega arith)))
+
+pub returns-then-code-lt160 : goal.returns-then-code-lt160
+returns-then-code-lt160 c = let a = c.args in sym (not_in a.s a.code (no_slot a.code (λ l h. omega arith) (λ l h. omega arith)))
+
+pub returns : goal.returns
+returns c =
+    let a = c.args in
+    c.has_at-2.ensures ∙ sym (is_in_its_slot a.s a.code (has_high a.code (omega arith) (omega arith)) ∙ ap (in_slot a.s) (slot_high a.code (omega arith)))

@@ -1,0 +1,16 @@
+-- The code's half says what to take off. Assumes nothing.
+use mathlib.Core.Path.{sym}
+use Prim.Native.Nat.{◌≤◌}
+use native.Mathlib.Omega.{arith}
+use borrow.Author.Rules.{rules}
+use Rattle.letters.proofs.Slots.{by_half, slot_low, slot_high}
+use Rattle.letters.proofs.slot_of.Goals as goal
+
+pub overflow_sub-result : goal.overflow_sub-result
+overflow_sub-result c = let code = c.args.code in by_half (32 ≤ code) code c.requires (λ a b e. a) (λ a b e. omega arith)
+
+pub returns-then-code-lt128 : goal.returns-then-code-lt128
+returns-then-code-lt128 c = sym (slot_low c.args.code (omega arith))
+
+pub returns : goal.returns
+returns c = sym (slot_high c.args.code (omega arith))

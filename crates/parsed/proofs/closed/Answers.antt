@@ -1,0 +1,19 @@
+-- A byte `)` there is what the rules ask for; where the pattern before it was not good, neither is this. Assumes nothing.
+use mathlib.Core.Path.{refl}
+use native.Mathlib.Omega.{arith}
+use borrow.Author.Rules.{rules}
+use Rattle.places.proofs.Places.{next_within}
+use Rattle.parsed.proofs.Standing.{close_not, close_stands}
+use Rattle.parsed.proofs.closed.Goals as goal
+
+pub returns-then-byte_at-ne41 : goal.returns-then-byte_at-ne41
+returns-then-byte_at-ne41 c n now at m R w = close_not _ at n m now R _ w c.byte_at.result c.byte_at.ensures _ refl c.if-byte_at-ne41.true
+
+pub overflow_add-out : goal.overflow_add-out
+overflow_add-out c =
+    let b = c.byte_at in
+    let inside = next_within c.args.s.now c.args.p.at (omega (arith, b.ensures)) in
+    omega arith
+
+pub returns : goal.returns
+returns c n now at m R w = close_stands _ at n m now R _ w c.byte_at.result c.byte_at.ensures c.if-byte_at-ne41.false

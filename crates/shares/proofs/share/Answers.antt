@@ -1,0 +1,7 @@
+-- The set of both is empty just where they share no letter. Assumes nothing.
+use Rattle.letters.proofs.Shared.{none_shared}
+use borrow.Author.Rules.{rules}
+use Rattle.shares.proofs.share.Goals as goal
+
+pub returns : goal.returns
+returns c = none_shared c.args.s c.args.t c.intersection.result c.requires c.intersection.ensures c.is_empty.result c.is_empty.ensures.0 c.is_empty.ensures.1
