@@ -140,7 +140,7 @@ module _ (n : ℕ) (m : Memory) (q : Part) where
   one_further : (k : ℕ) → n + k * w + w ≡ n + suc k * w
   one_further k = let o = suc-mul k w in omega arith
 
-  pub sides : {j : ℕ} {doubled : Bool} {rows more made made_more : List ℕ} → Copied w doubled (n + w) j rows more made made_more → n + suc j * w ≤ 60 → Clear n m.rows m.more
+  pub sides : {doubled : Bool} {j : ℕ} {rows more made made_more : List ℕ} → Copied w doubled (n + w) j rows more made made_more → n + suc j * w ≤ 60 → Clear n m.rows m.more
       → Adds m.rows (λ a b. ltb 0 (links n q a b)) rows → Counts m.rows m.more (links n q) rows more → (doubled ≡ false → more ≡ m.more) → Side j doubled made made_more
   sides {doubled = doubled} {rows = rows} {more = more} no_copy few c adds counts single = record {
     adds = adds;

@@ -42,7 +42,7 @@ pub loop-w-preserved : goal.loop-w-preserved
 loop-w-preserved c =
     let v = c.visit-w in
     let l = c.loop-w in
-    record { size = v.auto.scratch.1.1.1.0 ∙ l.invariant.size; still = l.invariant.still; searching = search_next l.invariant.searching l.invariant.none (v.ensures.right l.invariant.searching.sound); none = c.if-w.false }
+    record { size = v.auto.scratch ∙ l.invariant.size; still = l.invariant.still; searching = search_next l.invariant.searching l.invariant.none (v.ensures.right l.invariant.searching.sound); none = c.if-w.false }
 
 pub overflow_add-q : goal.overflow_add-q
 overflow_add-q c =  omega (arith, c.requires.1, c.pivots-test.true)
@@ -74,7 +74,7 @@ pub shape_of-scratch-then-w : goal.shape_of-scratch-then-w
 shape_of-scratch-then-w c =
     let v = c.visit-w in
     let l = c.loop-w in
-    v.auto.scratch.1.1.1.0 ∙ l.invariant.size ∙ c.begin-w.auto.0 ∙ c.pivots.invariant.size
+    v.auto.scratch ∙ l.invariant.size ∙ c.begin-w.auto.scratch ∙ c.pivots.invariant.size
 
 pub returns-then-w : goal.returns-then-w
 returns-then-w c =
@@ -82,4 +82,4 @@ returns-then-w c =
     let l = c.loop-w in
     let p = c.pivots in
     pivot_first p.invariant.low c.pivots-test.true c.only.ensures p.invariant.none
-    (record { seen = v.new.scratch.1.1.0; searching = search_next l.invariant.searching l.invariant.none (v.ensures.right l.invariant.searching.sound); over = λ f. absurd (true≢false (sym c.if-w.true ∙ f)) }) c.if-w.true
+    (record { seen = v.new.seen; searching = search_next l.invariant.searching l.invariant.none (v.ensures.right l.invariant.searching.sound); over = λ f. absurd (true≢false (sym c.if-w.true ∙ f)) }) c.if-w.true

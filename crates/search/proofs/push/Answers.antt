@@ -8,3 +8,7 @@ use Rattle.search.proofs.push.Goals as goal
 
 pub bounds-scratch-tail-2 : goal.bounds-scratch-tail-2
 bounds-scratch-tail-2 c = simp length-set (omega arith)
+
+pub returns : goal.returns
+unfolding enqueue
+returns c = refl

@@ -7,6 +7,7 @@ use borrow.Author.Tests.{not-true, not-false}
 use lib.ListN.{length}
 use Rattle.search.specs.Search.{Searching}
 use Rattle.search.proofs.Visiting.{search_next, visit_less}
+use Rattle.std.proofs.lemmas.Bool.{not-true as not_is_true, not-false as not_is_false}
 use Rattle.search.proofs.to_goal.Goals as goal
 
 pub begin-w-requires : goal.begin-w-requires
@@ -22,13 +23,13 @@ pub loop-w-smaller : goal.loop-w-smaller
 loop-w-smaller c =
     let v = c.visit-w in
     let l = c.loop-w in
-    visit_less l.invariant.1 c.if-not-w.true (v.ensures.right l.invariant.1.sound) c.loop-w-test.true
+    visit_less l.invariant.1 (not_is_true c.loop-w.w.found c.if-not-w.true) (v.ensures.right l.invariant.1.sound) c.loop-w-test.true
 
 pub loop-w-preserved : goal.loop-w-preserved
 loop-w-preserved c =
     let v = c.visit-w in
     let l = c.loop-w in
-    (v.auto.scratch.1.1.1.0 ∙ l.invariant.0, search_next l.invariant.1 c.if-not-w.true (v.ensures.right l.invariant.1.sound))
+    (v.auto.scratch ∙ l.invariant.0, search_next l.invariant.1 (not_is_true c.loop-w.w.found c.if-not-w.true) (v.ensures.right l.invariant.1.sound))
 
 pub shape_of-scratch-else-not-w : goal.shape_of-scratch-else-not-w
 shape_of-scratch-else-not-w c = c.loop-w.invariant.0 ∙ c.begin-w.auto.scratch
@@ -36,7 +37,7 @@ shape_of-scratch-else-not-w c = c.loop-w.invariant.0 ∙ c.begin-w.auto.scratch
 pub returns-else-not-w : goal.returns-else-not-w
 returns-else-not-w c =
     let w = c.loop-w.w in
-    record { seen = c.loop-w.seen; searching = c.loop-w.invariant.1; over = λ f. absurd (true≢false (sym c.if-not-w.false ∙ f)) }
+    record { seen = c.loop-w.seen; searching = c.loop-w.invariant.1; over = λ f. absurd (true≢false (sym (not_is_false c.loop-w.w.found c.if-not-w.false) ∙ f)) }
 
 pub shape_of-scratch-after-loop-w : goal.shape_of-scratch-after-loop-w
 shape_of-scratch-after-loop-w c = c.loop-w.invariant.0 ∙ c.begin-w.auto.scratch

@@ -1,0 +1,10 @@
+-- Each branch is the definition's. Assumes nothing.
+use mathlib.Core.Path.{sym}
+use Rattle.nodes.proofs.Nodes.{right_low, right_high}
+use Rattle.texts.proofs.right.Goals as goal
+
+pub returns-then-x-lt64 : goal.returns-then-x-lt64
+returns-then-x-lt64 c = sym (right_low c.args.x c.if-x-lt64.true)
+
+pub returns : goal.returns
+returns c = sym (right_high c.args.x c.if-x-lt64.false)
