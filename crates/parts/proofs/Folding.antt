@@ -201,8 +201,8 @@ module _ (F : Fold) (s : List ℕ) (at n : ℕ) (m : Memory) where
             goes = λ m' r' w. goes m' r' (subst (λ (R : Read). StandsFor s at n m m' R.good (F.op x (shape_of R.part)) R.rest r') (sym is) (more x ox A (F.self d (drop t s)) m' r' w));
           }
 
-      pub goes_on : Sofar now'' (placed r t) × (a.at < t) × (r.at ≤ length s)
-      goes_on =
+      pub goes_further : Sofar now'' (placed r t) × (a.at < t) × (r.at ≤ length s)
+      goes_further =
           let k = moves F.first F.rank s a.at a.n now now' b parses good in
           let on = k.0 in
           let within = k.1 in

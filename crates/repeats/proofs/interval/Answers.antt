@@ -15,7 +15,7 @@ use Rattle.repeats.proofs.interval.Goals as goal
 pub returns-then-not-i : goal.returns-then-not-i
 returns-then-not-i c =
     let i = c.args.i in
-    (λ s at m R I g w e. written_not s at _ m _ _ R I _ _ i w g e (not_is_true c.args.i.good c.if-not-i.true) c.if-not-i.true, c.requires.2)
+    (λ s at m R I g w e. written_not s at _ m _ _ R I _ _ i w g e (not_is_true i.good c.if-not-i.true) (not_is_true i.good c.if-not-i.true), c.requires.2)
 
 pub returns-then-out_of_bounds : goal.returns-then-out_of_bounds
 returns-then-out_of_bounds c =
