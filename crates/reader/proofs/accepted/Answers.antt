@@ -1,0 +1,19 @@
+-- The rows with the firsts in row 0, the lasts with 0 among them where the pattern can be empty, and the sets of the table.
+-- Assumes nothing.
+use mathlib.Core.Path.{◌≡◌, refl}
+use native.Mathlib.Omega.{arith}
+use lib.ListN.{length}
+use borrow.Author.Rules.{rules}
+use Rattle.reader.proofs.Building.{built_shown}
+use Rattle.reader.proofs.accepted.Goals as goal
+
+pub returns : goal.returns
+returns c =
+    let start = c.args in
+    let rows : length start.p.rows ≡ 61 = search rules in (
+      refl,
+      record {
+        graph = built_shown start.p start.sets.now start.credits c.sets-letters.result c.with_if.result (omega arith) c.sets-letters.ensures c.with_if.ensures;
+        doubled = refl;
+      },
+    )

@@ -1,0 +1,138 @@
+-- At each return the tests before it did not apply. Where the third does not, the text is a pattern, and what was parsed is the
+-- whole of it. Where none does, no two states have more than 256 links, so that none is lost. Assumes nothing.
+use mathlib.Core.Path.{◌≡◌, refl, sym, ap, ◌∙◌}
+use mathlib.Core.Bool.{true, false, not, ◌&&◌}
+use mathlib.Core.List.{List}
+use Prim.Native.Nat.{ℕ, ◌≤◌}
+use native.Mathlib.Omega.{arith}
+use lib.Dec.{eqb}
+use lib.ListN.{length}
+use borrow.Author.Rules.{rules}
+use borrow.Author.Tests.{lt-ltb, le-ltb}
+use Rattle.basics.proofs.Tests.{and_parts}
+use Rattle.pattern.specs.Grammar.{read_pattern, is_pattern, pattern_part}
+use Rattle.pattern.specs.Positions.{positions}
+use Rattle.alphabet.specs.Alphabet.{all_letters}
+use Rattle.parsed.specs.Parsed.{shape_of}
+use Rattle.parsed.specs.declared.Parsed.{Parsed}
+use Rattle.parts.specs.Parsing.{Whole, ParsesAll}
+use Rattle.parsed.proofs.Storing.{none_stored}
+use Rattle.reader.proofs.Depth.{links_few}
+use Rattle.reader.proofs.Building.{stored_bounded, single_shown}
+use Rattle.reader.proofs.Refusals.{tests, Passes, fails_more, refuses, no_refusal, accepts, whole_pattern}
+use Rattle.reader.proofs.read.Goals as goal
+
+-- ---- the tests that do not apply, one after the other
+
+module _ {s rows more sets credits : List ℕ} {p : Parsed} (short : length s ≤ 512) (letters : all_letters s ≡ true) (reads : ParsesAll s rows more sets credits p) where
+  passes_2 : Passes s 2
+  passes_2 = fails_more (tests s) 1 (le-ltb 512 (length s) short, tt) (ap not letters)
+
+  module _ (ends : (p.good && eqb p.at (length s)) ≡ true) where
+    -- the pattern ends with the text
+    whole : is_pattern s ≡ true
+    whole = sym (whole_pattern s _ _ _ _ p reads) ∙ ends
+
+    parsed : Whole (shape_of (pattern_part s)) rows more sets credits p
+    parsed = reads.has (reads.same ∙ (and_parts (read_pattern s).good _ whole).0)
+
+    passes_3 : Passes s 3
+    passes_3 = fails_more (tests s) 2 passes_2 (ap not whole)
+
+    passes_4 : p.reversed ≡ false → Passes s 4
+    passes_4 r = fails_more (tests s) 3 passes_3 (sym parsed.reversed ∙ r)
+
+    passes_5 : p.reversed ≡ false → p.hollow ≡ false → Passes s 5
+    passes_5 r h = fails_more (tests s) 4 (passes_4 r) (sym parsed.hollow ∙ h)
+
+    passes_6 : p.reversed ≡ false → p.hollow ≡ false → p.misbounded ≡ false → Passes s 6
+    passes_6 r h m = fails_more (tests s) 5 (passes_5 r h) (sym parsed.misbounded ∙ m)
+
+    few : p.n ≤ 60 → positions (pattern_part s) ≤ 60
+    few n = let count = parsed.count in omega arith
+
+    passes_7 : p.reversed ≡ false → p.hollow ≡ false → p.misbounded ≡ false → p.n ≤ 60 → Passes s 7
+    passes_7 r h m n = fails_more (tests s) 6 (passes_6 r h m) (le-ltb 60 (positions (pattern_part s)) (few n))
+
+-- ---- the returns
+
+pub returns-then-s-gt512 : goal.returns-then-s-gt512
+returns-then-s-gt512 c =
+    let s = c.args.s.now in
+    refuses s 0 _ c.refused.result (omega arith) tt (lt-ltb 512 (length s) c.if-s-gt512.true) c.refused.ensures
+
+pub returns-then-not-all_letters : goal.returns-then-not-all_letters
+returns-then-not-all_letters c =
+    let s = c.args.s.now in
+    refuses s 1 _ c.refused-then-not-all_letters.result (omega arith) (le-ltb 512 (length s) c.if-s-gt512.false, tt) (ap not (sym c.all_letters.ensures ∙ c.if-not-all_letters.true)) c.refused-then-not-all_letters.ensures
+
+pub parse-p-requires : goal.parse-p-requires
+parse-p-requires c =
+    let empty = c.empty-sets.ensures in
+    (record { sets_are = empty.0; credits_are = refl }, none_stored c.empty-sets.result empty.1, c.requires.0, c.requires.1)
+
+pub returns-then-not-part-s : goal.returns-then-not-part-s
+returns-then-not-part-s c =
+    let s = c.args.s.now in
+    let part = c.parse-p.result.part in
+    let reads = c.parse-p.ensures in
+    let short = c.if-s-gt512.false in
+    let letters : all_letters s ≡ true = sym c.all_letters.ensures ∙ c.if-not-all_letters.false in
+    refuses s 2 _ c.refused-then-not-part-s.result (omega arith) (passes_2 short letters reads) (ap not (sym (whole_pattern s _ _ _ _ part reads) ∙ c.if-not-part-s.true)) c.refused-then-not-part-s.ensures
+
+pub returns-then-part : goal.returns-then-part
+returns-then-part c =
+    let s = c.args.s.now in
+    let part = c.parse-p.result.part in
+    let reads = c.parse-p.ensures in
+    let short = c.if-s-gt512.false in
+    let letters : all_letters s ≡ true = sym c.all_letters.ensures ∙ c.if-not-all_letters.false in
+    let ends : (part.good && eqb part.at (length s)) ≡ true = c.if-not-part-s.false in
+    refuses s 3 _ c.refused-then-part.result (omega arith) (passes_3 short letters reads ends) (sym (parsed short letters reads ends).reversed ∙ c.if-part.true) c.refused-then-part.ensures
+
+pub returns-then-part-2 : goal.returns-then-part-2
+returns-then-part-2 c =
+    let s = c.args.s.now in
+    let part = c.parse-p.result.part in
+    let reads = c.parse-p.ensures in
+    let short = c.if-s-gt512.false in
+    let letters : all_letters s ≡ true = sym c.all_letters.ensures ∙ c.if-not-all_letters.false in
+    let ends : (part.good && eqb part.at (length s)) ≡ true = c.if-not-part-s.false in
+    refuses s 4 _ c.refused-then-part-2.result (omega arith) (passes_4 short letters reads ends c.if-part.false) (sym (parsed short letters reads ends).hollow ∙ c.if-part-2.true) c.refused-then-part-2.ensures
+
+pub returns-then-part-3 : goal.returns-then-part-3
+returns-then-part-3 c =
+    let s = c.args.s.now in
+    let part = c.parse-p.result.part in
+    let reads = c.parse-p.ensures in
+    let short = c.if-s-gt512.false in
+    let letters : all_letters s ≡ true = sym c.all_letters.ensures ∙ c.if-not-all_letters.false in
+    let ends : (part.good && eqb part.at (length s)) ≡ true = c.if-not-part-s.false in
+    refuses s 5 _ c.refused-then-part-3.result (omega arith) (passes_5 short letters reads ends c.if-part.false c.if-part-2.false) (sym (parsed short letters reads ends).misbounded ∙ c.if-part-3.true) c.refused-then-part-3.ensures
+
+pub returns-then-part-gt60 : goal.returns-then-part-gt60
+returns-then-part-gt60 c =
+    let s = c.args.s.now in
+    let part = c.parse-p.result.part in
+    let reads = c.parse-p.ensures in
+    let short = c.if-s-gt512.false in
+    let letters : all_letters s ≡ true = sym c.all_letters.ensures ∙ c.if-not-all_letters.false in
+    let ends : (part.good && eqb part.at (length s)) ≡ true = c.if-not-part-s.false in
+    let count = (parsed short letters reads ends).count in
+    refuses s 6 _ c.refused-then-part-gt60.result (omega arith) (passes_6 short letters reads ends c.if-part.false c.if-part-2.false c.if-part-3.false) (lt-ltb 60 (positions (pattern_part s)) (omega (arith, c.if-part-gt60.true))) c.refused-then-part-gt60.ensures
+
+pub returns : goal.returns
+returns c =
+    let s = c.args.s.now in
+    let part = c.parse-p.result.part in
+    let reads = c.parse-p.ensures in
+    let short = c.if-s-gt512.false in
+    let letters : all_letters s ≡ true = sym c.all_letters.ensures ∙ c.if-not-all_letters.false in
+    let ends : (part.good && eqb part.at (length s)) ≡ true = c.if-not-part-s.false in
+    let passes = passes_7 short letters reads ends c.if-part.false c.if-part-2.false c.if-part-3.false c.if-part-gt60.false in
+    let l = few short letters reads ends c.if-part-gt60.false in
+    let w = (parsed short letters reads ends).keeps l in
+    let made = c.accepted.ensures.1 in
+    accepts s _ _ passes c.accepted.ensures.0 (made.graph (pattern_part s) _ w l (links_few s (no_refusal s passes))) (stored_bounded (pattern_part s) _ _ w.stored l)
+    (λ d. single_shown c.accepted.result.built c.parse-p.new.more (w.none (sym made.doubled ∙ d)))
+
