@@ -141,7 +141,7 @@ module _ (b s : List ℕ) (r : Marked) (says : MarkSays b s r) where
   true_mark : r.refusal ≡ 0 → TrueMark b s r
   true_mark given =
       let none : mark_refusal b s ≡ 0 = sym says.refusal ∙ given in
-      let a = Marking.pattern-accepted b s none in
+      let a = Marking.pattern_accepted b s none in
       let yes = eq-eqb (mark_refusal b s) 0 none in
       let count : r.count ≡ min (readings (pattern_graph b) s) (2 ^ 63) = says.count ∙ if_yes (min (readings (pattern_graph b) s) (2 ^ 63)) 0 (eqb (mark_refusal b s) 0) yes in
       let best : r.mark ≡ mark (pattern_graph b) s = says.mark ∙ if_yes (mark (pattern_graph b) s) (pos 0) (eqb (mark_refusal b s) 0) yes in
@@ -149,8 +149,8 @@ module _ (b s : List ℕ) (r : Marked) (says : MarkSays b s r) where
       let some : 1 ≤ r.count → 1 ≤ readings (pattern_graph b) s = λ l. omega arith in
       record {
         counts_exactly_texts = (
-          λ t. let p = (Demands.texts-are-readings b s a).0 t in omega (arith, reading_counts (pattern_graph b) s p.0 p.1),
-          λ l. (Demands.texts-are-readings b s a).1 (count_reading (pattern_graph b) s (some l)),
+          λ t. let p = (Demands.texts_are_readings b s a).0 t in omega (arith, reading_counts (pattern_graph b) s p.0 p.1),
+          λ l. (Demands.texts_are_readings b s a).1 (count_reading (pattern_graph b) s (some l)),
         );
         count_is_true = let l = Demands.count_is_true b s a in (l.0, l.1, l.2, count ∙ ap (λ (n : ℕ). min n (2 ^ 63)) (sym l.3));
         mark_is_earned = λ l. let m = Demands.mark_is_earned b s a (some l) in (m.0, m.1, m.2 ∙ sym best);
@@ -161,7 +161,7 @@ module _ (b s : List ℕ) (r : Marked) (says : MarkSays b s r) where
         taken_within = omega (arith, taken, (taken_first (pattern_graph b) s).within);
         taken_is_over = subst (λ (n : ℕ). n < length s → (t : List ℕ) → readings (pattern_graph b) (take n s ++ t) ≡ 0) (sym taken) (λ l t. Demands.taken_is_over b s t a l);
         taken_no_sooner = λ n l. Demands.taken_no_sooner b s n a (omega arith);
-        taken_whole = λ l. taken ∙ Demands.taken-is-whole b s a (some l);
+        taken_whole = λ l. taken ∙ Demands.taken_is_whole b s a (some l);
       }
 
   -- `mark_answer` gave r.
@@ -206,7 +206,7 @@ module _ (b e e' w w' : List ℕ) (r : Vetted) (says : VetSays b e e' w w' r) wh
       record {
         verdict_is = said;
         positions_is = judged.positions;
-        single_exactly = (λ v. (Demands.single-allows-one b a).0 (sym said ∙ v), λ h. said ∙ (Demands.single-allows-one b a).1 h);
+        single_exactly = (λ v. (Demands.single_allows_one b a).0 (sym said ∙ v), λ h. said ∙ (Demands.single_allows_one b a).1 h);
         single_shows = λ v. let t = shown 0 v in (t.first, t.second, t.third, t.kept);
         steady_allows = λ v s.
             subst (λ (n : ℕ). readings (pattern_graph b) s ≤ (length s + 2) ^ (2 * n)) p (Demands.steady_allows b s a (λ t. let f = sym v ∙ said ∙ t in absurd (omega arith)));
@@ -221,7 +221,7 @@ module _ (b e e' w w' : List ℕ) (r : Vetted) (says : VetSays b e e' w w' r) wh
               third = t.third;
               written = t.written;
               shows = t.shows;
-              two_readings = Demands.steady-text-has-two b t.text a t.shows;
+              two_readings = Demands.steady_text_has_two b t.text a t.shows;
             };
         runaway_shows = λ v.
             let t = shown 2 v in
@@ -240,9 +240,9 @@ module _ (b e e' w w' : List ℕ) (r : Vetted) (says : VetSays b e e' w w' r) wh
               third = t.third;
               written = t.written;
               shows = t.shows;
-              readings_double = Demands.runaway-texts-double b t.x t.y t.z a t.shows;
+              readings_double = Demands.runaway_texts_double b t.x t.y t.z a t.shows;
             };
-        verdict_low = omega (arith, said, Demands.verdict-is-low b a);
+        verdict_low = omega (arith, said, Demands.verdict_is_low b a);
       }
 
   -- `vet_pattern` gave r.
@@ -251,7 +251,7 @@ module _ (b e e' w w' : List ℕ) (r : Vetted) (says : VetSays b e e' w w' r) wh
     refusal_is = Vetting.refusal_is b e e' w w' r says;
     refusal_alone = λ d. (Vetting.declined b e e' w w' r says d).result;
     refusal_keeps = λ d. let k = Vetting.declined b e e' w w' r says d in (k.evidence, k.scratch);
-    accepted_gets_verdict = λ a l k. Vetting.refusal_is b e e' w w' r says ∙ Vetting.by-pattern b (length e) (length w) l k ∙ a;
+    accepted_gets_verdict = λ a l k. Vetting.refusal_is b e e' w w' r says ∙ Vetting.by_pattern b (length e) (length w) l k ∙ a;
     true_verdict = true_verdict;
   }
 

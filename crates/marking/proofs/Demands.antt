@@ -38,38 +38,38 @@ use Rattle.verdict.proofs.Bounds as Bounds
 
 -- "An answer has a reading exactly when it belongs to the pattern's texts as POSIX defines alternation, joining and repetition."
 pub texts_are_readings : (b s : List ℕ) → pattern_refusal b ≡ 0 → Text (pattern_part b) s ↔ ((r : List Transition) × (is_reading (pattern_graph b) s r ≡ true))
-texts_are_readings b s a = Texts.texts-read (pattern_part b) s
+texts_are_readings b s a = Texts.texts_read (pattern_part b) s
 
 -- Of an interval those are the texts of its atom, one after another, as many as its bounds allow.
 pub interval_texts : (b : Bounds) (p : Part) (s : List ℕ) → out_of_bounds b ≡ false → Text (written_out b p) s ↔ Counted p b s
-interval_texts b p s e = Intervals.interval-texts b p s e
+interval_texts b p s e = Intervals.interval_texts b p s e
 
 -- "The count is the true one": some list has all readings, each of them once, and is as long as the count says.
 pub count_is_true : (b s : List ℕ) → pattern_refusal b ≡ 0
     → (rs : List (List Transition)) × Apart rs × ((r : List Transition) → In r rs ↔ (is_reading (pattern_graph b) s r ≡ true)) × (length rs ≡ readings (pattern_graph b) s)
-count_is_true b s a = Counting.readings-listed (pattern_graph b) s
+count_is_true b s a = Counting.readings_listed (pattern_graph b) s
 
 -- "The mark is the most credit one reading earns", an integer, as all credits are: where there is a reading, one earns it;
 pub mark_is_earned : (b s : List ℕ) → pattern_refusal b ≡ 0 → 1 ≤ readings (pattern_graph b) s
     → (r : List Transition) × (is_reading (pattern_graph b) s r ≡ true) × (credit_of (pattern_graph b) r ≡ mark (pattern_graph b) s)
-mark_is_earned b s a = Marks.mark-earned (pattern_graph b) s
+mark_is_earned b s a = Marks.mark_earned (pattern_graph b) s
 
 -- no reading earns more;
 pub mark_is_most : (b s : List ℕ) (r : List Transition) → pattern_refusal b ≡ 0 → is_reading (pattern_graph b) s r ≡ true → credit_of (pattern_graph b) r ≤ℤ mark (pattern_graph b) s
-mark_is_most b s r a = Marks.mark-most (pattern_graph b) s r
+mark_is_most b s r a = Marks.mark_most (pattern_graph b) s r
 
 -- "0 if there is none."
 pub mark_is_none : (b s : List ℕ) → pattern_refusal b ≡ 0 → readings (pattern_graph b) s ≡ 0 → mark (pattern_graph b) s ≡ pos 0
-mark_is_none b s a = Marks.mark-none (pattern_graph b) s
+mark_is_none b s a = Marks.mark_none (pattern_graph b) s
 
 -- The letters taken: up to and with the first after which no state is possible. If they are fewer than the answer has, no answer
 -- that begins with them has a reading;
 pub taken_is_over : (b s t : List ℕ) → pattern_refusal b ≡ 0 → letters_taken (pattern_graph b) s < length s → readings (pattern_graph b) (take (letters_taken (pattern_graph b) s) s ++ t) ≡ 0
-taken_is_over b s t a = Taken.taken-over (pattern_graph b) s t
+taken_is_over b s t a = Taken.taken_over (pattern_graph b) s t
 
 -- with fewer letters it is not over: some answer that begins with those has a reading;
 pub taken_no_sooner : (b s : List ℕ) (n : ℕ) → pattern_refusal b ≡ 0 → n < letters_taken (pattern_graph b) s → (t : List ℕ) × (all_letters t ≡ true) × (1 ≤ readings (pattern_graph b) (take n s ++ t))
-taken_no_sooner b s n a l = Onward.live-goes-on (pattern_graph b) (trim b a) (some_position (pattern_part b)) (take n s) ((Taken.taken-first (pattern_graph b) s).none n l)
+taken_no_sooner b s n a l = Onward.live_goes_on (pattern_graph b) (trim b a) (some_position (pattern_part b)) (take n s) ((Taken.taken_first (pattern_graph b) s).none n l)
 
 -- and an answer that has a reading is taken whole.
 pub taken_is_whole : (b s : List ℕ) → pattern_refusal b ≡ 0 → 1 ≤ readings (pattern_graph b) s → letters_taken (pattern_graph b) s ≡ length s
@@ -91,23 +91,23 @@ steady_allows b s a v = Bounds.bounded (pattern_graph b) (trim b a) v s
 
 -- Steady: some answer has two readings, and vetting can show one of at most p² + p letters.
 pub steady_can_show : (b : List ℕ) → pattern_refusal b ≡ 0 → verdict (pattern_graph b) ≡ 1 → (s : List ℕ) × ShowsSteady (pattern_graph b) s
-steady_can_show b a = Bounds.steady-can (pattern_graph b) (trim b a)
+steady_can_show b a = Bounds.steady_can (pattern_graph b) (trim b a)
 
 pub steady_text_has_two : (b s : List ℕ) → pattern_refusal b ≡ 0 → ShowsSteady (pattern_graph b) s → 2 ≤ readings (pattern_graph b) s
-steady_text_has_two b s a = Bounds.steady-shown (pattern_graph b) s
+steady_text_has_two b s a = Bounds.steady_shown (pattern_graph b) s
 
 -- Runaway: vetting can show texts x, y, z,
 pub runaway_can_show : (b : List ℕ) → pattern_refusal b ≡ 0 → verdict (pattern_graph b) ≡ 2 → (x : List ℕ) × (y : List ℕ) × (z : List ℕ) × ShowsRunaway (pattern_graph b) x y z
-runaway_can_show b a = Bounds.runaway-can (pattern_graph b) (trim b a)
+runaway_can_show b a = Bounds.runaway_can (pattern_graph b) (trim b a)
 
 -- and x yᵏ z has at least 2ᵏ readings for every k.
 pub runaway_texts_double : (b x y z : List ℕ) → pattern_refusal b ≡ 0 → ShowsRunaway (pattern_graph b) x y z → (k : ℕ) → 2 ^ k ≤ readings (pattern_graph b) (x ++ (times k y ++ z))
-runaway_texts_double b x y z a = Bounds.runaway-shown (pattern_graph b) x y z
+runaway_texts_double b x y z a = Bounds.runaway_shown (pattern_graph b) x y z
 
 -- The letter shown where two paths come to the positions i and j, or one path to i, and j is i: both sets hold it,
 pub letter_shown_serves : (b : List ℕ) (i j : ℕ) → pattern_refusal b ≡ 0 → shares (pattern_graph b) i j ≡ true → both_hold (pattern_graph b) i j (letter_shown (pattern_graph b) i j) ≡ true
-letter_shown_serves b i j a h = (Order.first-letter (both_hold (pattern_graph b) i j) h).1
+letter_shown_serves b i j a h = (Order.first_letter_serves (both_hold (pattern_graph b) i j) h).1
 
 -- and no letter that both hold comes before it in the order.
 pub letter_shown_is_first : (b : List ℕ) (i j c : ℕ) → pattern_refusal b ≡ 0 → is_letter c ≡ true → both_hold (pattern_graph b) i j c ≡ true → place (letter_shown (pattern_graph b) i j) ≤ place c
-letter_shown_is_first b i j c a l h = Order.first-least (both_hold (pattern_graph b) i j) c l h
+letter_shown_is_first b i j c a l h = Order.first_least (both_hold (pattern_graph b) i j) c l h

@@ -14,8 +14,7 @@ use borrow.Author.Tests.{ltb-true}
 use Rattle.basics.proofs.Integers.{sub_pos}
 use Rattle.marking.specs.Packing.{bits32}
 use Rattle.marking.proofs.Packing.{bits_low}
-use Rattle.marking.proofs.twos_complement.Statement.{statement}
-use Rattle.marking.proofs.twos_complement.Tie as tie
+use Rattle.marking.proofs.twos_complement.Goals as goal
 
 above : (z : ℤ) → mag z < 2 ^ 31 → lt_z z (pos 0) ≡ true → z +ℤ pos (2 ^ 32) ≡ pos (bits32 z)
 above (pos n) l h = absurd (not-suc-le-zero (ltb-true n 0 h))
@@ -62,24 +61,20 @@ module _ (z : ℤ) (f : SFits w32 z) where
     plain_cast : T (non_neg (to_z w32 (of_z w32 z))) × Fits w64 (nat_abs (to_z w32 (of_z w32 z)))
     plain_cast = (subst (λ (v : ℤ). T (non_neg v)) (sym kept) plain_kept.0, subst (Fits w64) (sym plain_is) (record { fits = let l = bits_low z f.sfits in omega arith }))
 
-cast-result : tie.Need-overflow-cast-result
-cast-result c = let a = c.before in subst (SFits w64) (sym (kept a.args.n a.ranges.n)) (wide a.args.n a.ranges.n)
+pub overflow_cast-result : goal.overflow_cast-result
+overflow_cast-result c =  subst (SFits w64) (sym (kept c.args.n c.ranges.n)) (wide c.args.n c.ranges.n)
 
-add-result : tie.Need-overflow-add-result
-add-result c = let a = c.before in sum_fits a.args.n a.ranges.n c.if1.true
+pub overflow_add-result : goal.overflow_add-result
+overflow_add-result c =  sum_fits c.args.n c.ranges.n c.if-n-lt0.true
 
-cast-result-2 : tie.Need-overflow-cast-result-2
-cast-result-2 c = let a = c.before in sum_cast a.args.n a.ranges.n c.if1.true
+pub overflow_cast-result-then-n-lt0 : goal.overflow_cast-result-then-n-lt0
+overflow_cast-result-then-n-lt0 c =  sum_cast c.args.n c.ranges.n c.if-n-lt0.true
 
-returns : tie.Need-returns
-returns c = let a = c.before in ap nat_abs (sum_kept a.args.n a.ranges.n c.if1.true)
+pub returns-then-n-lt0 : goal.returns-then-n-lt0
+returns-then-n-lt0 c =  ap nat_abs (sum_kept c.args.n c.ranges.n c.if-n-lt0.true)
 
-cast-result-3 : tie.Need-overflow-cast-result-3
-cast-result-3 c = let a = c.before in plain_cast a.args.n a.ranges.n c.if1.false
+pub overflow_cast-result-2 : goal.overflow_cast-result-2
+overflow_cast-result-2 c =  plain_cast c.args.n c.ranges.n c.if-n-lt0.false
 
-returns-2 : tie.Need-returns-2
-returns-2 c = let a = c.before in plain_is a.args.n a.ranges.n c.if1.false
-
-pub twos_complement_spec : {M : Type 1} → statement M
-twos_complement_spec =
-    tie.close (tie.spec cast-result add-result cast-result-2 returns cast-result-3 returns-2)
+pub returns : goal.returns
+returns c =  plain_is c.args.n c.ranges.n c.if-n-lt0.false
