@@ -10,7 +10,7 @@ use lib.Dec.{leb}
 use lib.ListN.{length, get_or, drop}
 use lib.Seq.{drop-cons}
 use borrow.Author.Tests.{leb-true, le-leb}
-use Rattle.basics.specs.Choice.{if◌then◌else◌}
+use Rattle.std.specs.Prelude.{if◌then◌else◌}
 use Rattle.basics.proofs.Tests.{and_parts, and_of, or_cases, or_left, or_right, by_equal}
 use Rattle.alphabet.specs.Alphabet.{is_letter, all_letters, some_from, lowest_from, some_letter, lowest_letter}
 

@@ -1,6 +1,5 @@
 -- The letters. All that depends on which codes are letters stands here.
-use Rattle.std.specs.Prelude.{Bool, true, false, ◌&&◌, ◌||◌, List, [], ◌∷◌, ℕ, zero, suc, leb}
-use Rattle.basics.specs.Choice.{if◌then◌else◌}
+use Rattle.std.specs.Prelude.{Bool, true, false, ◌&&◌, ◌||◌, List, [], ◌∷◌, ℕ, zero, suc, leb, if◌then◌else◌}
 
 -- [Letters] the 191 codes from 32 to 126 and from 160 to 255
 abbrev pub is_letter : ℕ → Bool

@@ -1,6 +1,5 @@
 -- Tables by codes, some members of which are flipped: what the contracts cite.
-use Rattle.std.specs.Prelude.{◌≡◌, Bool, not, ◌&&◌, List, ℕ, length, get_or}
-use Rattle.basics.specs.Choice.{if◌then◌else◌}
+use Rattle.std.specs.Prelude.{◌≡◌, Bool, not, ◌&&◌, List, ℕ, length, get_or, if◌then◌else◌}
 use Rattle.bits.specs.Bits.{has_bit}
 
 abbrev pub flipped : Bool → Bool → Bool

@@ -11,7 +11,7 @@ use lib.IntN.{ℤ, pos, neg_ℤ}
 use lib.ListN.{length, get_or, drop, drop_of_length-le}
 use lib.Seq.{drop-drop}
 use borrow.Author.Tests.{eq-eqb, ne_eqb, leb-true, le-ltb, not-true, not-false}
-use Rattle.basics.specs.Choice.{if◌then◌else◌}
+use Rattle.std.specs.Prelude.{if◌then◌else◌}
 use Rattle.basics.specs.Bytes.{is_in}
 use Rattle.basics.proofs.Tests.{by_test, if_yes, and_parts}
 use Rattle.alphabet.specs.Alphabet.{is_letter}

@@ -10,7 +10,7 @@ use native.Mathlib.Omega.{arith}
 use lib.Dec.{eqb}
 use lib.ListN.{get_or}
 use borrow.Author.Tests.{eq-eqb, ne_eqb, eqb-true}
-use Rattle.basics.specs.Choice.{if◌then◌else◌}
+use Rattle.std.specs.Prelude.{if◌then◌else◌}
 use Rattle.basics.specs.Folds.{fold_if, sum_if, any_if, list_if, most_if, Less, LeastOf}
 use Rattle.basics.proofs.Tests.{by_test, by_equal, if_yes, if_no, if_either, le_or_lt, or_left, or_right, or_cases, and_parts, and_of, same_test}
 

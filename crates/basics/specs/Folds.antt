@@ -1,6 +1,5 @@
 -- Folds over the numbers below n that pass a test p, in rising order.
-use Rattle.std.specs.Prelude.{◌≡◌, Bool, true, false, not, ◌&&◌, ◌||◌, List, [], ◌∷◌, ◌++◌, ℕ, zero, suc, ◌+◌, ◌<◌, max, eqb}
-use Rattle.basics.specs.Choice.{if◌then◌else◌}
+use Rattle.std.specs.Prelude.{◌≡◌, Bool, true, false, not, ◌&&◌, ◌||◌, List, [], ◌∷◌, ◌++◌, ℕ, zero, suc, ◌+◌, ◌<◌, max, eqb, if◌then◌else◌}
 
 unfoldable pub fold_if : {A : Type 0} → A → (A → A → A) → (ℕ → Bool) → (ℕ → A) → ℕ → A
 fold_if none join p f zero = none

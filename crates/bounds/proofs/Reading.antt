@@ -10,10 +10,10 @@ use borrow.Author.Tests.{leb-true, eq-eqb, ne_eqb}
 use lib.Dec.{eqb, leb}
 use lib.ListN.{length, drop}
 use lib.Seq.{drop-drop}
-use Rattle.basics.specs.Choice.{if◌then◌else◌}
+use Rattle.std.specs.Prelude.{if◌then◌else◌}
 use Rattle.basics.proofs.Tests.{and_parts, if_yes, if_no}
 use Rattle.places.proofs.Places.{next_within}
-use Rattle.pattern.specs.Parts.{Bounds, between, at_least}
+use Rattle.pattern.specs.Parts.{between, at_least}
 use Rattle.pattern.specs.Grammar.{peek, Bound, bound, is_digit, digit_more, read_bound, Interval, interval, no_interval, read_interval}
 use Rattle.bounds.specs.declared.BoundRead.{BoundRead}
 use Rattle.bounds.specs.declared.IntervalRead.{IntervalRead}

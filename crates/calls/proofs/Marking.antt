@@ -8,7 +8,7 @@ use lib.Dec.{eqb, ltb}
 use lib.IntN.{ℤ, pos, nat_abs}
 use lib.ListN.{length}
 use borrow.Author.Tests.{eqb-true, eq-eqb, ne_eqb, lt-ltb, le-ltb}
-use Rattle.basics.specs.Choice.{if◌then◌else◌}
+use Rattle.std.specs.Prelude.{if◌then◌else◌}
 use Rattle.basics.proofs.Tests.{by_test, if_yes, if_no}
 use Rattle.alphabet.specs.Alphabet.{all_letters}
 use Rattle.graph.specs.Graph.{Graph, no_graph}

@@ -1,6 +1,5 @@
 -- What marking an answer promises, for all input.
-use Rattle.std.specs.Prelude.{◌≡◌, not, List, ℕ, ◌≤◌, ◌^◌, min, eqb, ltb, ℤ, pos, nat_abs, length}
-use Rattle.basics.specs.Choice.{if◌then◌else◌}
+use Rattle.std.specs.Prelude.{◌≡◌, not, List, ℕ, ◌≤◌, ◌^◌, min, eqb, ltb, ℤ, pos, nat_abs, length, if◌then◌else◌}
 use Rattle.alphabet.specs.Alphabet.{all_letters}
 use Rattle.graph.specs.Readings.{readings, mark}
 use Rattle.graph.specs.Taken.{letters_taken}

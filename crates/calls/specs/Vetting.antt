@@ -1,7 +1,6 @@
 -- What vetting a pattern promises, for all input. Which texts are shown is free beyond what their records say, and so is what
 -- scratch holds after a verdict.
-use Rattle.std.specs.Prelude.{◌≡◌, List, ℕ, zero, suc, ltb, length}
-use Rattle.basics.specs.Choice.{if◌then◌else◌}
+use Rattle.std.specs.Prelude.{◌≡◌, List, ℕ, zero, suc, ltb, length, if◌then◌else◌}
 use Rattle.pattern.specs.Refusals.{pattern_refusal}
 use Rattle.pattern.specs.Positions.{pattern_graph}
 use Rattle.vetting.specs.Answers.{Judged}

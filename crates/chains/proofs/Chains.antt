@@ -10,7 +10,7 @@ use native.Mathlib.Omega.{arith}
 use borrow.Author.Tests.{eqb-true, le-leb}
 use lib.Dec.{eqb, leb, eqb-suc-zero, leb-zero, leb-suc-suc, leb-suc-zero}
 use lib.ListN.{length, length-append}
-use Rattle.basics.specs.Choice.{if◌then◌else◌}
+use Rattle.std.specs.Prelude.{if◌then◌else◌}
 use Rattle.basics.proofs.Tests.{if_yes, if_no}
 use Rattle.pattern.specs.Parts.{star, plus, Part, again, Bounds, out_of_bounds, copies, nested, written_out}
 use Rattle.pattern.proofs.Written.{written_by}

@@ -9,7 +9,7 @@ use native.Mathlib.Nat.{add-zero, add_assoc, suc-mul, zero-mul, mul-le-mul_right
 use native.Mathlib.Omega.{arith}
 use lib.Dec.{eqb, leb, ltb}
 use lib.ListN.{length, length-append}
-use Rattle.basics.specs.Choice.{if◌then◌else◌}
+use Rattle.std.specs.Prelude.{if◌then◌else◌}
 use Rattle.basics.proofs.Tests.{and_parts, or_parts, by_test, if_no, le_or_lt}
 use Rattle.bits.specs.Bits.{has_bit}
 use Rattle.pattern.specs.Parts.{Part}

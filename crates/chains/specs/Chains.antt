@@ -1,6 +1,5 @@
 -- Copies of a part, one after the other: what they have in rows and in the table of links beyond the first.
-use Rattle.std.specs.Prelude.{◌≡◌, Bool, true, false, List, ℕ, suc, ◌+◌, ◌-◌, ◌*◌, max, length}
-use Rattle.basics.specs.Choice.{if◌then◌else◌}
+use Rattle.std.specs.Prelude.{◌≡◌, Bool, true, false, List, ℕ, suc, ◌+◌, ◌-◌, ◌*◌, max, length, if◌then◌else◌}
 use Rattle.pattern.specs.Parts.{Part, Bounds, out_of_bounds, written_out}
 use Rattle.pattern.specs.Positions.{positions}
 use Rattle.links.specs.Rows.{Clear}

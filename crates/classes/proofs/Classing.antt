@@ -8,12 +8,12 @@ use lib.IntN.{pos}
 use lib.ListN.{length, drop, length-drop}
 use lib.Seq.{drop-drop}
 use borrow.Author.Tests.{eq-eqb, ne_eqb}
-use Rattle.basics.specs.Choice.{if◌then◌else◌}
+use Rattle.std.specs.Prelude.{if◌then◌else◌}
 use Rattle.alphabet.specs.Alphabet.{is_letter}
 use Rattle.letters.specs.LetterSet.{has_letter}
 use Rattle.letters.specs.declared.LetterSet.{LetterSet}
 use Rattle.pattern.specs.Parts.{atom, in_items, holds}
-use Rattle.pattern.specs.Grammar.{Read, read, broken, peek, Items, items_from, with_credit, read_class}
+use Rattle.pattern.specs.Grammar.{Read, broken, peek, Items, items_from, with_credit, read_class}
 use Rattle.classes.specs.declared.Named.{Named}
 use Rattle.classes.specs.Classes.{ReadsItems, ReadsNamed}
 

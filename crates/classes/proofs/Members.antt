@@ -12,7 +12,7 @@ use lib.ListN.{length, get_or, drop, drop_of_length-le}
 use lib.Seq.{drop-drop}
 use types.Run.{OneOf}
 use borrow.Author.Tests.{eqb-true, eq-eqb, ne_eqb, not-true, not-false}
-use Rattle.basics.specs.Choice.{if◌then◌else◌}
+use Rattle.std.specs.Prelude.{if◌then◌else◌}
 use Rattle.basics.specs.Bytes.{is_in}
 use Rattle.basics.proofs.Tests.{by_test, by_equal, and_parts, or_cases}
 use Rattle.alphabet.specs.Alphabet.{is_letter}

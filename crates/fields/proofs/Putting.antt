@@ -8,7 +8,6 @@ use native.Mathlib.Numerals.{add-one}
 use native.Mathlib.Omega.{arith}
 use lib.ListN.{length, take, drop, get_or, set, length-append}
 use lib.Seq.{sets, sets-eq, length-sets, take_at, take-suc, take_all, length-take-le}
-use Rattle.io.specs.Counts.{IsPrefixLen}
 use Rattle.fields.specs.Fields.{Puts}
 
 pub sets_append : (s t l : List ℕ) (i : ℕ) → sets (sets l i s) (i + length s) t ≡ sets l i (s ++ t)
@@ -26,9 +25,9 @@ puts_then {s} {t} {old} {mid} {new} {a} {m} {r} p q = record {
 pub puts_kept : {s old new : List ℕ} {a r : ℕ} → Puts s old a new r → length new ≡ length old
 puts_kept {s} {old} {new} {a} p = ap length p.bytes ∙ length-sets old a s
 
--- a short line by another name
-pub puts_same : {text line old new : List ℕ} {a r : ℕ} → Puts text old a new r × (r ≤ a + 18) → text ≡ line → Puts line old a new r × (r ≤ a + 18)
-puts_same {text} {line} {old} {new} {a} {r} p e = (subst (λ (t : List ℕ). Puts t old a new r) e p.0, p.1)
+-- a line by another name
+pub puts_same : {text line old new : List ℕ} {a r : ℕ} → Puts text old a new r → text ≡ line → Puts line old a new r
+puts_same {text} {line} {old} {new} {a} {r} p e = subst (λ (t : List ℕ). Puts t old a new r) e p
 
 -- ---- a text put byte by byte
 
@@ -50,7 +49,7 @@ puts_all text old new a i r h p = subst (λ (t : List ℕ). Puts t old a new r) 
 
 module _ {text old new : List ℕ} {len : ℕ} (p : Puts text old 0 new len) (fits : len ≤ length old) where
   -- its length counts bytes of the slice
-  pub puts_counts : IsPrefixLen len new
+  pub puts_counts : (len ≤ length new) × (len ≡ length (take len new))
   puts_counts =
       let k = puts_kept p in
       let l : len ≤ length new = omega arith in

@@ -1,7 +1,7 @@
 -- The loop of a step: entry after entry of the new row is filled, from a row that the stores do not touch. Assumes nothing.
 use Rattle.std.proofs.Common.{◌≡◌, ℕ, ◌+◌, ◌*◌, ◌%◌, ◌^◌, ◌<◌, ◌≤◌, min, max, Bool, true, false, ◌&&◌, ◌||◌, eqb, ltb, List, length, get_or, set, sym, refl, ap, ◌∙◌, subst, ⊎_elim, arith, length-set, get_or-set_other, get_or-set_same, le-ltb, lt-ltb, eqb-true}
 use mathlib.Core.Bool.{or_assoc, or-false, false≢true}
-use Rattle.basics.specs.Choice.{if◌then◌else◌}
+use Rattle.std.specs.Prelude.{if◌then◌else◌}
 use Rattle.basics.specs.Folds.{any_if, Less}
 use Rattle.basics.proofs.Tests.{and_parts, or_cases, by_equal, if_yes, if_no}
 use Rattle.basics.proofs.Folds.{fold_same}

@@ -1,7 +1,6 @@
 -- Rows over the states, in memory that may hold anything else. A row is a set of possible states and, from an offset on, 61 counts
 -- and 61 credits, of which only those of possible states mean anything.
-use Rattle.std.specs.Prelude.{◌≡◌, ℕ, suc, ◌+◌, ◌*◌, ◌%◌, ◌^◌, ◌<◌, min, Bool, true, ◌&&◌, List, length, set, ◌≢◌, bit_and, nat_lt, slice_index, slice_set}
-use Rattle.basics.specs.Choice.{if◌then◌else◌}
+use Rattle.std.specs.Prelude.{◌≡◌, ℕ, suc, ◌+◌, ◌*◌, ◌%◌, ◌^◌, ◌<◌, min, Bool, true, ◌&&◌, List, length, ◌≢◌, bit_and, nat_lt, slice_index, slice_set, if◌then◌else◌}
 use Rattle.basics.specs.Folds.{sum_if, most_if}
 use Rattle.bits.specs.Bits.{has_bit}
 

@@ -10,7 +10,7 @@ use native.Mathlib.Omega.{arith}
 use lib.Dec.{ltb}
 use lib.ListN.{length, length-append, length-map}
 use borrow.Author.Tests.{ltb-true, lt-ltb}
-use Rattle.basics.specs.Choice.{if◌then◌else◌}
+use Rattle.std.specs.Prelude.{if◌then◌else◌}
 use Rattle.basics.specs.Folds.{fold_if}
 use Rattle.basics.specs.Lists.{Each, Apart, In}
 use Rattle.basics.proofs.Tests.{and_parts, and_of, by_test, if_either}

@@ -1,7 +1,6 @@
 -- The graph that a built pattern shows, with the table of the links beyond the first: from state u to position i at 61 * u + i.
-use Rattle.std.specs.Prelude.{List, ℕ, suc, ◌+◌, ◌*◌, ℤ, get_or}
+use Rattle.std.specs.Prelude.{List, ℕ, suc, ◌+◌, ◌*◌, ℤ, get_or, if◌then◌else◌}
 use Rattle.std.proofs.Math.IntN.{sub_ℕ}
-use Rattle.basics.specs.Choice.{if◌then◌else◌}
 use Rattle.bits.specs.Bits.{has_bit}
 use Rattle.letters.specs.LetterSet.{has_letter}
 use Rattle.letters.specs.LetterSet.{set_at}

@@ -1,7 +1,6 @@
 -- The readings of an answer, their number, and the mark.
 -- Each is one function of a state: at 0, before any letter, it is the reading, the count or the mark of the whole answer.
-use Rattle.std.specs.Prelude.{Bool, false, ◌&&◌, List, [], ◌∷◌, map, ℕ, suc, ◌*◌, min, max, ltb, ℤ, pos, negsuc, ◌+ℤ◌}
-use Rattle.basics.specs.Choice.{if◌then◌else◌}
+use Rattle.std.specs.Prelude.{Bool, false, ◌&&◌, List, [], ◌∷◌, map, ℕ, suc, ◌*◌, min, max, ltb, ℤ, pos, negsuc, ◌+ℤ◌, if◌then◌else◌}
 use Rattle.basics.specs.Folds.{fold_if, sum_if}
 use Rattle.graph.specs.Graph.{Graph, step}
 

@@ -6,7 +6,6 @@ use Prim.Native.Nat.{ℕ, ◌+◌, ◌-◌, ◌≤◌, ◌<◌}
 use native.Mathlib.Omega.{arith}
 use lib.Dec.{eqb, ltb}
 use borrow.Author.Tests.{eqb-true, eqb-false, lt-ltb, le-ltb, ne_eqb, eq-eqb, not-true}
-use Rattle.basics.specs.Choice.{if◌then◌else◌}
 use Rattle.basics.proofs.Tests.{le_or_lt, and_when, same_test, by_test, if_yes, if_no}
 use Rattle.alphabet.specs.Alphabet.{is_letter}
 use Rattle.alphabet.proofs.Alphabet.{in_first, in_second, by_ranges}

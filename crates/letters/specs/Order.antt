@@ -1,7 +1,6 @@
 -- [Letters shown] The order of the letters: `a` to `z`, `A` to `Z`, `0` to `9`, then the others by code.
-use Rattle.std.specs.Prelude.{Bool, ◌&&◌, List, [], ◌∷◌, ℕ, ◌+◌, leb}
+use Rattle.std.specs.Prelude.{Bool, ◌&&◌, List, [], ◌∷◌, ℕ, ◌+◌, leb, if◌then◌else◌}
 use Prim.Native.Char.{code}
-use Rattle.basics.specs.Choice.{if◌then◌else◌}
 use Rattle.alphabet.specs.Alphabet.{some_letter, lowest_letter}
 
 -- the codes from `from` to `to`, both ends included

@@ -1,7 +1,6 @@
 -- What the program `vet` writes, a line for each pattern of its input, and what the functions that make it promise.
 -- A name in square brackets is that of the rule that a definition renders.
-use Rattle.std.specs.Prelude.{◌≡◌, List, [], ◌∷◌, ◌++◌, ℕ, suc, ◌+◌, ◌-◌, ◌≤◌, ◌<◌, eqb, ltb, length, take, drop}
-use Rattle.basics.specs.Choice.{if◌then◌else◌}
+use Rattle.std.specs.Prelude.{◌≡◌, List, [], ◌∷◌, ◌++◌, ℕ, suc, ◌+◌, ◌-◌, ◌≤◌, ◌<◌, eqb, ltb, length, take, drop, if◌then◌else◌}
 use Rattle.basics.specs.Bytes.{codes}
 use Rattle.pattern.specs.Grammar.{pattern_part}
 use Rattle.pattern.specs.Positions.{positions, pattern_graph}
@@ -53,6 +52,10 @@ pub record EndsAt (s : List ℕ) (a r : ℕ) : Type 0 where
   pub after : a ≤ r
   pub inside : r ≤ length s
   pub cuts : patterns_of (drop a s) ≡ take (r - a) (drop a s) ∷ patterns_of (drop (r + 1) s)
+
+-- n counts bytes of a slice: its first n bytes are n
+abbrev pub IsPrefixLen : ℕ → List ℕ → Type 0
+IsPrefixLen n xs = (n ≤ length xs) × (n ≡ length (take n xs))
 
 -- a run before its first line
 abbrev pub start : Run

@@ -3,9 +3,14 @@
 #![tactic(auto)]
 
 ghost use Rattle.std.specs.Prelude.{◌≡◌, ◌+◌, ◌≤◌, ◌<◌, length};
-ghost use Rattle.io.specs.Counts.{IsPrefixLen};
 ghost use Rattle.fields.specs.Fields.{Puts};
-ghost use Rattle.lines.specs.Lines.{line_of, EndsAt, start, HasLine, PatternLine, NextLine};
+ghost use Rattle.lines.specs.Lines.{line_of, EndsAt, start, IsPrefixLen, HasLine, PatternLine, NextLine};
+
+// The longest input whose patterns are vetted, in bytes.
+const LONGEST_INPUT: usize = 65536;
+
+// What a line takes at most, in bytes.
+const LONGEST_LINE: usize = 18;
 
 // Where a run through an input stands: the byte from which and the number with which it goes on, and the length of the line that
 // it has just put.
@@ -45,10 +50,10 @@ pub fn next_line(input: &[u8], run: Run, out: &mut [u8]) -> Run
     if run.number >= 100000 {
         return stay;
     }
-    if out.len() < 18 {
+    if out.len() < LONGEST_LINE {
         return stay;
     }
-    if input.len() > 65536 {
+    if input.len() > LONGEST_INPUT {
         let len = fields::put(b"input too long", b'\n', out, 0);
         let next = run.number + 1;
         return Run {

@@ -1,7 +1,6 @@
 -- Sets and rows of positions, as the program holds them, and the numbers of links. Positions past 60 are counted and have no place
 -- in a set and no row, so each fact of sets and rows holds of every number; the numbers of links are those of kept pairs.
-use Rattle.std.specs.Prelude.{◌≡◌, Bool, true, false, ◌&&◌, ◌||◌, List, ℕ, zero, suc, ◌+◌, ◌*◌, ◌<◌, eqb, ltb, length, get_or}
-use Rattle.basics.specs.Choice.{if◌then◌else◌}
+use Rattle.std.specs.Prelude.{◌≡◌, Bool, true, false, ◌&&◌, ◌||◌, List, ℕ, zero, suc, ◌+◌, ◌*◌, ◌<◌, eqb, ltb, length, get_or, if◌then◌else◌}
 use Rattle.bits.specs.Bits.{has_bit}
 
 -- has a number a place in a set, and a row

@@ -10,7 +10,7 @@ use lib.IntN.{ℤ, pos, negsuc, sub_ℕ, nat_abs}
 use lib.ListN.{length}
 use lib.Signed.{mag}
 use borrow.Author.Tests.{lt-ltb, le-ltb}
-use Rattle.basics.specs.Choice.{if◌then◌else◌}
+use Rattle.std.specs.Prelude.{if◌then◌else◌}
 use Rattle.basics.proofs.Integers.{sub_neg}
 use Rattle.basics.proofs.Tests.{by_test, if_yes, if_no, if_either}
 use Rattle.alphabet.specs.Alphabet.{all_letters}

@@ -1,6 +1,5 @@
 -- What the calls for C promise, for all input: what the calls that they are made of promise, with one number for the result.
-use Rattle.std.specs.Prelude.{◌≡◌, List, ℕ, eqb, length}
-use Rattle.basics.specs.Choice.{if◌then◌else◌}
+use Rattle.std.specs.Prelude.{◌≡◌, List, ℕ, eqb, length, if◌then◌else◌}
 use Rattle.marks.specs.declared.Marked.{Marked}
 use Rattle.vetting.specs.declared.Vetted.{Vetted}
 use Rattle.calls.specs.Marking.{mark_refusal, count_shown, MarkSays}

@@ -1,7 +1,6 @@
 -- [Packed results] For C a result is one number, made of fields of bits; and the fields of such a number, as the header reads them.
-use Rattle.std.specs.Prelude.{ℕ, suc, ◌+◌, ◌-◌, ◌*◌, ◌/◌, ◌%◌, ◌^◌, eqb, ltb, ℤ, pos, negsuc}
+use Rattle.std.specs.Prelude.{ℕ, suc, ◌+◌, ◌-◌, ◌*◌, ◌/◌, ◌%◌, ◌^◌, eqb, ltb, ℤ, pos, negsuc, if◌then◌else◌}
 use Rattle.std.proofs.Math.IntN.{sub_ℕ}
-use Rattle.basics.specs.Choice.{if◌then◌else◌}
 use Rattle.marks.specs.declared.Marked.{Marked}
 use Rattle.vetting.specs.declared.Vetted.{Vetted}
 

@@ -1,5 +1,5 @@
 // The calls for C: those of `calls`, which clients in Rattle find here too, with one number for the result. No call has a
-// `requires`: each tests its input itself, and what it gives is said for all input.
+// `requires`: each tests its input itself, and what it gives is said for all input. `marking_c` exports them.
 #![tactic(auto)]
 
 ghost use Rattle.std.specs.Prelude.{◌≡◌, ◌<◌, ◌^◌};
@@ -11,8 +11,7 @@ use vetting::Vetted;
 
 // Vets a pattern. The result has the refusal in bits 0 to 7, the verdict in 8 to 15, the number of positions in 16 to 23, the
 // lengths in 24 to 35, 36 to 47 and 48 to 59.
-#[unsafe(no_mangle)]
-pub extern "C" fn marking_vet_in(pattern: &[u8], evidence: &mut [u8], scratch: &mut [u16]) -> u64
+pub fn marking_vet_in(pattern: &[u8], evidence: &mut [u8], scratch: &mut [u16]) -> u64
     ensures { VetForC pattern.now evidence.old evidence.new scratch.old scratch.new result }
 {
     let v = calls::vet_pattern(pattern, &mut *evidence, &mut *scratch);
@@ -20,8 +19,7 @@ pub extern "C" fn marking_vet_in(pattern: &[u8], evidence: &mut [u8], scratch: &
 }
 
 // The same with scratch of its own.
-#[unsafe(no_mangle)]
-pub extern "C" fn marking_vet(pattern: &[u8], evidence: &mut [u8]) -> u64
+pub fn marking_vet(pattern: &[u8], evidence: &mut [u8]) -> u64
     ensures { VetAlone pattern.now evidence.old evidence.new result }
 {
     let mut scratch = [0u16; 8192];
@@ -30,8 +28,7 @@ pub extern "C" fn marking_vet(pattern: &[u8], evidence: &mut [u8]) -> u64
 
 // Marks an answer. The result has the mark in bits 0 to 31, as two's complement, the refusal in 32 to 39 and the letters taken in
 // 40 to 55. The count is stored behind the pointer where there is no refusal; at a refusal nothing is read or stored there.
-#[unsafe(no_mangle)]
-pub extern "C" fn marking_mark(pattern: &[u8], answer: &[u8], count: &mut u64) -> u64
+pub fn marking_mark(pattern: &[u8], answer: &[u8], count: &mut u64) -> u64
     ensures { MarkForC pattern.now answer.now count.old count.new result }
 {
     let m = calls::mark_answer(pattern, answer);

@@ -15,7 +15,7 @@ use lib.Dec.{eqb, ltb}
 use lib.IntN.{ℤ, pos, nat_abs, ◌+ℤ◌, +ℤ_idr}
 use lib.ListN.{length, get_or, length-append}
 use borrow.Author.Tests.{eqb-true, eq-eqb, ne_eqb, ltb-true, ltb-false}
-use Rattle.basics.specs.Choice.{if◌then◌else◌}
+use Rattle.std.specs.Prelude.{if◌then◌else◌}
 use Rattle.basics.specs.Folds.{fold_if, sum_if, any_if}
 use Rattle.basics.proofs.Tests.{and_parts, by_test, le_or_lt, if_yes, if_no, if_either}
 use Rattle.basics.proofs.Lists.{within_any}

@@ -1,7 +1,6 @@
 -- What the rows say of the answer. It is said of every way that the answer can go on: from the row alone the count and the mark of
 -- the whole answer follow, and which states will be possible.
-use Rattle.std.specs.Prelude.{◌≡◌, Bool, true, List, ◌++◌, ℕ, ◌*◌, ◌^◌, ◌≤◌, min, eqb, ℤ, pos, nat_abs, length, get_or}
-use Rattle.basics.specs.Choice.{if◌then◌else◌}
+use Rattle.std.specs.Prelude.{◌≡◌, Bool, true, List, ◌++◌, ℕ, ◌*◌, ◌^◌, ◌≤◌, min, eqb, ℤ, pos, nat_abs, length, get_or, if◌then◌else◌}
 use Rattle.basics.specs.Folds.{fold_if, any_if}
 use Rattle.bits.specs.Bits.{has_bit}
 use Rattle.graph.specs.Graph.{Graph, Bounded}

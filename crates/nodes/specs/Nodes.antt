@@ -1,8 +1,7 @@
 -- The nodes of a search, as numbers, and the steps between them. Below 64 a node is a state: both paths are there, and have not
 -- parted. From 64 on it is a * 64 + b with b ≤ a: they have parted, and one is at position a, the other at b. Paths have parted
 -- where they are at different positions, came to one by different links, or had parted before.
-use Rattle.std.specs.Prelude.{◌≡◌, Bool, true, false, ◌&&◌, ◌||◌, not, List, ℕ, ◌+◌, ◌*◌, ◌/◌, ◌%◌, ◌≤◌, ◌<◌, eqb, ltb, leb, get_or, length}
-use Rattle.basics.specs.Choice.{if◌then◌else◌}
+use Rattle.std.specs.Prelude.{◌≡◌, Bool, true, false, ◌&&◌, ◌||◌, not, List, ℕ, ◌+◌, ◌*◌, ◌/◌, ◌%◌, ◌≤◌, ◌<◌, eqb, ltb, leb, get_or, length, if◌then◌else◌}
 use Rattle.bits.specs.Bits.{has_bit}
 use Rattle.nodes.specs.declared.Next.{Next}
 

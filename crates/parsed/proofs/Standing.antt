@@ -10,7 +10,7 @@ use borrow.Author.Tests.{eq-eqb, ne_eqb}
 use lib.Dec.{eqb}
 use lib.ListN.{length, drop}
 use lib.Seq.{drop-drop}
-use Rattle.basics.specs.Choice.{if◌then◌else◌}
+use Rattle.std.specs.Prelude.{if◌then◌else◌}
 use Rattle.basics.proofs.Tests.{by_test, and_when}
 use Rattle.bits.specs.Bits.{has_bit}
 use Rattle.pattern.specs.Parts.{Repeat, skips, loops, is_misbounded, Part, again}

@@ -1,8 +1,7 @@
 -- What is kept of a part that was parsed: its end, its firsts and lasts, and what it adds to the rows and the tables; and what the
 -- functions here make of it.
-use Rattle.std.specs.Prelude.{◌≡◌, Bool, true, false, ◌&&◌, ◌||◌, List, ◌++◌, ℕ, ◌+◌, ◌<◌, ◌≤◌, min, eqb, ltb, length, drop}
+use Rattle.std.specs.Prelude.{◌≡◌, Bool, true, false, ◌&&◌, ◌||◌, List, ◌++◌, ℕ, ◌+◌, ◌<◌, ◌≤◌, min, eqb, ltb, length, drop, if◌then◌else◌}
 use Prim.Native.Char.{code}
-use Rattle.basics.specs.Choice.{if◌then◌else◌}
 use Rattle.bits.specs.Bits.{has_bit}
 use Rattle.pattern.specs.Parts.{Atom, Repeat, skips, loops, is_misbounded, Part, again}
 use Rattle.pattern.specs.Grammar.{Read, read, broken, peek}

@@ -8,7 +8,7 @@ use Prim.Native.Nat.{ℕ, zero, suc, ◌+◌, ◌-◌, ◌*◌, ◌<◌, ◌≤�
 use native.Mathlib.Omega.{arith}
 use lib.ListN.{length, drop}
 use lib.Seq.{drop-drop}
-use Rattle.basics.specs.Choice.{if◌then◌else◌}
+use Rattle.std.specs.Prelude.{if◌then◌else◌}
 use Rattle.basics.proofs.Tests.{by_test, if_yes, if_no, and_parts, and_when}
 use Rattle.pattern.specs.Parts.{Part, joined, either}
 use Rattle.pattern.specs.Grammar.{Read, read, broken, goes_on, piece_from, branch_from, pattern_from}

@@ -11,7 +11,7 @@ use borrow.Author.Tests.{eqb-true, eq-eqb, ne_eqb}
 use lib.Dec.{eqb, ltb}
 use lib.ListN.{length, get_or, drop, replicate}
 use lib.Seq.{drop-drop}
-use Rattle.basics.specs.Choice.{if◌then◌else◌}
+use Rattle.std.specs.Prelude.{if◌then◌else◌}
 use Rattle.basics.proofs.Tests.{if_yes, if_no, and_parts}
 use Rattle.basics.proofs.Lists.{zeros}
 use Rattle.pattern.specs.Grammar.{Read, read, broken, peek, read_letter, repeated, pattern_from, piece_from}

@@ -1,7 +1,6 @@
 -- What parsing a pattern, a branch or a piece gives, and the whole pattern.
-use Rattle.std.specs.Prelude.{◌≡◌, Bool, true, false, List, ℕ, zero, suc, ◌+◌, ◌-◌, ◌*◌, ◌<◌, ◌≤◌, min, eqb, ltb, length, drop}
+use Rattle.std.specs.Prelude.{◌≡◌, Bool, true, false, List, ℕ, zero, suc, ◌+◌, ◌-◌, ◌*◌, ◌<◌, ◌≤◌, min, eqb, ltb, length, drop, if◌then◌else◌}
 use Prim.Native.Char.{code}
-use Rattle.basics.specs.Choice.{if◌then◌else◌}
 use Rattle.pattern.specs.Parts.{Part}
 use Rattle.pattern.specs.Grammar.{Read, read, broken, peek, read_letter, pattern_from, read_pattern, pattern_part}
 use Rattle.pattern.specs.Refusals.{any_reversed, any_empty}

@@ -7,7 +7,7 @@ use native.Mathlib.Omega.{arith}
 use lib.Dec.{ltb}
 use lib.ListN.{length}
 use borrow.Author.Tests.{ltb-false, not-false}
-use Rattle.basics.specs.Choice.{if◌then◌else◌}
+use Rattle.std.specs.Prelude.{if◌then◌else◌}
 use Rattle.alphabet.specs.Alphabet.{all_letters}
 use Rattle.pattern.specs.Grammar.{is_pattern, pattern_part}
 use Rattle.pattern.specs.Positions.{atoms, positions}

@@ -3,7 +3,7 @@
 use mathlib.Core.Path.{◌≡◌, ap, ◌∙◌}
 use mathlib.Core.Bool.{Bool, ◌&&◌, ◌||◌}
 use Prim.Native.Nat.{ℕ, ◌+◌}
-use Rattle.basics.specs.Choice.{if◌then◌else◌}
+use Rattle.std.specs.Prelude.{if◌then◌else◌}
 use Rattle.graph.specs.Graph.{some}
 use Rattle.graph.proofs.Links.{some_plus, some_if}
 use Rattle.pattern.specs.Parts.{Repeat, loops, Part, either, joined, again}

@@ -5,7 +5,7 @@ use Prim.Native.Nat.{ℕ, suc, ◌+◌}
 use native.Mathlib.Nat.{add_comm}
 use native.Mathlib.Omega.{arith}
 use lib.Dec.{eqb}
-use Rattle.basics.specs.Choice.{if◌then◌else◌}
+use Rattle.std.specs.Prelude.{if◌then◌else◌}
 use Rattle.basics.proofs.Tests.{equal_added}
 use Rattle.pattern.specs.Parts.{loops, Part, letter, either, joined, again}
 use Rattle.pattern.specs.Positions.{positions, can_be_empty, is_first, is_last, links}

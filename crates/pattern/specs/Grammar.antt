@@ -1,7 +1,6 @@
 -- The grammar, as functions that read a pattern's bytes from the left. A name in brackets is a rule of docs/RULES.md.
-use Rattle.std.specs.Prelude.{Bool, true, false, ◌&&◌, ◌||◌, not, List, [], ◌∷◌, ◌++◌, ℕ, zero, suc, ◌+◌, ◌-◌, ◌*◌, eqb, leb, ℤ, pos, neg_ℤ, length, get_or, drop}
+use Rattle.std.specs.Prelude.{Bool, true, false, ◌&&◌, ◌||◌, not, List, [], ◌∷◌, ◌++◌, ℕ, zero, suc, ◌+◌, ◌-◌, ◌*◌, eqb, leb, ℤ, pos, neg_ℤ, length, get_or, drop, if◌then◌else◌}
 use Prim.Native.Char.{code}
-use Rattle.basics.specs.Choice.{if◌then◌else◌}
 use Rattle.basics.specs.Bytes.{codes, is_in}
 use Rattle.pattern.specs.Parts.{Item, item, Atom, atom, optional, star, plus, Part, letter, either, joined, again, Bounds, between, at_least, written_out}
 

@@ -1,6 +1,5 @@
 -- What a pattern is once read: a tree of parts, whose leaves are the lettered atoms.
-use Rattle.std.specs.Prelude.{Bool, true, false, ◌&&◌, ◌||◌, not, List, [], ◌∷◌, ℕ, zero, suc, ◌-◌, eqb, leb, ltb, ℤ}
-use Rattle.basics.specs.Choice.{if◌then◌else◌}
+use Rattle.std.specs.Prelude.{Bool, true, false, ◌&&◌, ◌||◌, not, List, [], ◌∷◌, ℕ, zero, suc, ◌-◌, eqb, leb, ltb, ℤ, if◌then◌else◌}
 use Rattle.alphabet.specs.Alphabet.{is_letter}
 
 -- [Classes] an item: the letters from `lo` to `hi`, both ends included

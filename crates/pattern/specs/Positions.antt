@@ -1,6 +1,5 @@
 -- Positions, and for each part whether it can be empty, its firsts, its lasts, and the links: the graph of a pattern.
-use Rattle.std.specs.Prelude.{Bool, false, ◌&&◌, ◌||◌, List, [], ◌∷◌, ◌++◌, ℕ, zero, suc, ◌+◌, eqb, length, get_or}
-use Rattle.basics.specs.Choice.{if◌then◌else◌}
+use Rattle.std.specs.Prelude.{Bool, false, ◌&&◌, ◌||◌, List, [], ◌∷◌, ◌++◌, ℕ, zero, suc, ◌+◌, eqb, length, get_or, if◌then◌else◌}
 use Rattle.graph.specs.Graph.{some, Graph}
 use Rattle.pattern.specs.Parts.{Atom, holds, skips, loops, Part, letter, either, joined, again}
 use Rattle.pattern.specs.Grammar.{no_atom, pattern_part}

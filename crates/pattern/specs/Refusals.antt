@@ -1,6 +1,5 @@
 -- [Refusals of a pattern] in checking order.
-use Rattle.std.specs.Prelude.{Bool, false, ◌||◌, not, List, [], ◌∷◌, ℕ, eqb, ltb, length}
-use Rattle.basics.specs.Choice.{if◌then◌else◌}
+use Rattle.std.specs.Prelude.{Bool, false, ◌||◌, not, List, [], ◌∷◌, ℕ, eqb, ltb, length, if◌then◌else◌}
 use Rattle.alphabet.specs.Alphabet.{all_letters, some_letter}
 use Rattle.graph.specs.Graph.{Graph, no_graph}
 use Rattle.pattern.specs.Parts.{Item, Atom, holds, is_misbounded, Part, letter, either, joined, again}

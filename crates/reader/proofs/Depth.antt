@@ -12,7 +12,7 @@ use lib.Dec.{eqb}
 use lib.IntN.{pos, neg_ℤ}
 use lib.ListN.{length, get_or, drop, length-drop}
 use borrow.Author.Tests.{eqb-true}
-use Rattle.basics.specs.Choice.{if◌then◌else◌}
+use Rattle.std.specs.Prelude.{if◌then◌else◌}
 use Rattle.basics.specs.Bytes.{is_in}
 use Rattle.basics.proofs.Tests.{and_parts, by_test, if_no, if_either}
 use Rattle.graph.proofs.Links.{if_low}

@@ -7,7 +7,7 @@ use native.Mathlib.Omega.{arith}
 use lib.Dec.{eqb, ltb}
 use lib.ListN.{length, get_or, take, length-drop}
 use borrow.Author.Tests.{eqb-true, eq-eqb, ne_eqb}
-use Rattle.basics.specs.Choice.{if◌then◌else◌}
+use Rattle.std.specs.Prelude.{if◌then◌else◌}
 use Rattle.basics.specs.Lists.{Each}
 use Rattle.basics.proofs.Tests.{and_when, same_test, if_yes, if_no}
 use Rattle.alphabet.specs.Alphabet.{all_letters}

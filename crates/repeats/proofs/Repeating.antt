@@ -10,7 +10,7 @@ use borrow.Author.Tests.{eqb-true, eqb-false, ne_eqb, not-true, not-false}
 use lib.Dec.{eqb}
 use lib.ListN.{drop}
 use lib.Seq.{drop-drop}
-use Rattle.basics.specs.Choice.{if◌then◌else◌}
+use Rattle.std.specs.Prelude.{if◌then◌else◌}
 use Rattle.basics.proofs.Tests.{or_parts, or_cases}
 use Rattle.places.proofs.Places.{next_within}
 use Rattle.pattern.specs.Parts.{Repeat, optional, star, plus, misbounded, skips, loops, is_misbounded, again}

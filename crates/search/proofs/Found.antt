@@ -28,7 +28,7 @@ use Rattle.verdict.proofs.Parting.{parts_goal, goal_parts}
 use Rattle.search.specs.declared.Goal.{Goal}
 use Rattle.search.specs.declared.Search.{Search}
 use Rattle.shares.specs.Tables.{Rows, Doubles, Shares}
-use Rattle.nodes.specs.Nodes.{pack, left_of, right_of, goes, Step, single, beside, taken}
+use Rattle.nodes.specs.Nodes.{pack, left_of, right_of, Step, single, beside, taken}
 use Rattle.search.specs.Search.{queue, is_goal, SoundQueue, Searched}
 use Rattle.nodes.proofs.Nodes.{sides, left_low, right_low, left_high, right_high}
 use Rattle.search.proofs.Visiting.{complete, way_back}

@@ -9,7 +9,7 @@ use native.Mathlib.Omega.{arith}
 use lib.Dec.{eqb}
 use lib.ListN.{length, length-map}
 use borrow.Author.Tests.{eq-eqb, ne_eqb}
-use Rattle.basics.specs.Choice.{if◌then◌else◌}
+use Rattle.std.specs.Prelude.{if◌then◌else◌}
 use Rattle.basics.specs.Lists.{Each, Apart}
 use Rattle.basics.proofs.Tests.{by_test, by_equal, if_yes, if_no}
 use Rattle.basics.proofs.Lists.{each_map, map_each, map_apart}

@@ -9,7 +9,7 @@ use Prim.Native.Nat.{ℕ, ◌+◌, ◌-◌, ◌≤◌, ◌<◌}
 use native.Mathlib.Omega.{arith}
 use lib.Dec.{eqb}
 use borrow.Author.Tests.{eqb-true, eqb-false, eq-eqb, ne_eqb, not-true, not-false}
-use Rattle.basics.specs.Choice.{if◌then◌else◌}
+use Rattle.std.specs.Prelude.{if◌then◌else◌}
 use Rattle.basics.specs.Lists.{end_of, Chain}
 use Rattle.basics.proofs.Tests.{and_parts, and_of, or_left, or_right, or_parts, by_test, by_equal, if_yes, if_either}
 use Rattle.basics.proofs.Lists.{map_end}

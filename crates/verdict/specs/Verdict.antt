@@ -1,6 +1,5 @@
 -- Single, steady, runaway.
-use Rattle.std.specs.Prelude.{Bool, ◌&&◌, ◌||◌, not, List, ℕ, suc, ◌*◌, eqb, get_or}
-use Rattle.basics.specs.Choice.{if◌then◌else◌}
+use Rattle.std.specs.Prelude.{Bool, ◌&&◌, ◌||◌, not, List, ℕ, suc, ◌*◌, eqb, get_or, if◌then◌else◌}
 use Rattle.basics.specs.Folds.{any_if, list_if}
 use Rattle.graph.specs.Graph.{Graph, is_position, doubled}
 use Rattle.verdict.specs.Pairs.{Pair, pair, shares, some_pair, reached}

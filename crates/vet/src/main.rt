@@ -1,8 +1,14 @@
-// The program: reads patterns, a line each, and writes what vetting each gives. It only reads, repeats and writes: what the lines
-// are, and that they are all, `lines` promises of every run from `begin` on until it is over.
+// The program: reads patterns, a line each, and writes what vetting each gives. It only reads, repeats and writes: what a line is,
+// `lines` promises of every run from `begin` on until it is over.
 #![tactic(auto)]
 
-ghost use Rattle.std.specs.Prelude.{◌≡◌, length};
+ghost use Rattle.std.specs.Prelude.{◌≡◌, length, take, IfSome, IfOk, OnOk};
+ghost use Rattle.std.specs.Io.{ReadsAtMost};
+ghost use Rattle.std.specs.Io.KnownBytes.{Appends};
+ghost use Rattle.lines.specs.Lines.{output_of};
+
+use std::io;
+use std::io::{Read, Write};
 
 // Room for the longest input, and a byte more, which shows that it is too long.
 fn input_room() -> [u8; 65537]
@@ -11,14 +17,44 @@ fn input_room() -> [u8; 65537]
     [0; 65537]
 }
 
-fn main() {
-    let mut input = input_room();
-    let n = io::read_full(0, &mut input);
-    let mut run = lines::begin();
-    while run.from < n {
-        let mut line = [0u8; 32];
-        run = lines::next_line(&input[..n], run, &mut line);
-        let len = run.len;
-        io::write_all(1, &line[..len]);
+// Reads until `room` is full or the input ends, and gives how many bytes it put at the start of `room`: they are the input's first.
+fn read_full<R: Read>(input: &mut R, room: &mut [u8]) -> io::Result<usize>
+    ensures within { ReadsAtMost result room.new }
+    ensures bytes { IfSome (R.remaining input.old) (λ xs. IfOk result (λ n. take n room.new ≡ take (length room.new) xs)) }
+{
+    let mut filled = 0;
+    while filled < room.len() {
+        let n = input.read(&mut room[filled..])?;
+        if n == 0 {
+            break;
+        }
+        filled += n;
     }
+    Ok(filled)
+}
+
+// Writes the output for an input, line by line.
+fn write_lines<W: Write>(input: &[u8], output: &mut W) -> io::Result<()>
+    ensures { OnOk result (Appends (W.contents output.old) (W.contents output.new) (output_of input.now)) }
+{
+    let mut run = lines::begin();
+    while run.from < input.len() {
+        let mut line = [0u8; 32];
+        run = lines::next_line(input, run, &mut line);
+        output.write_all(&line[..run.len])?;
+    }
+    Ok(())
+}
+
+// Reads an input, and no more of it than shows that it is too long, and writes its output.
+fn vet_input<R: Read, W: Write>(input: &mut R, output: &mut W) -> io::Result<()>
+    ensures { OnOk result (IfSome (R.remaining input.old) (λ xs. Appends (W.contents output.old) (W.contents output.new) (output_of xs))) }
+{
+    let mut room = input_room();
+    let n = read_full(input, &mut room)?;
+    write_lines(&room[..n], output)
+}
+
+fn main(rt: HostRuntime) -> io::Result<()> {
+    vet_input(&mut rt.stdin(), &mut rt.stdout())
 }

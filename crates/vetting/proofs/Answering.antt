@@ -10,7 +10,7 @@ use borrow.Author.Tests.{eqb-true, eq-eqb, ne_eqb, lt-ltb, le-leb}
 use lib.Dec.{eqb, ltb, leb}
 use lib.ListN.{get_or, length, take, drop, length-map, length-append, replicate}
 use lib.Seq.{take_at, drop-append-add, drop-drop}
-use Rattle.basics.specs.Choice.{if◌then◌else◌}
+use Rattle.std.specs.Prelude.{if◌then◌else◌}
 use Rattle.basics.specs.Lists.{Each, end_of}
 use Rattle.basics.proofs.Tests.{and_parts, and_of, if_yes, if_no, le_or_lt}
 use Rattle.basics.proofs.Lists.{zeros, pigeon}
@@ -38,10 +38,10 @@ use Rattle.vetting.specs.declared.Vetted.{Vetted}
 use Rattle.nodes.specs.Nodes.{left_of, right_of, Step, single, beside}
 use Rattle.search.specs.Search.{is_goal}
 use Rattle.shares.specs.Tables.{Rows, Doubles, Shares, Within, is_doubled, NoneDoubled, held}
-use Rattle.texts.specs.Texts.{letter_at, Showable, written, ShownText, Shown}
+use Rattle.texts.specs.Texts.{letter_at, Showable, ShownText, Shown}
 use Rattle.vetting.specs.Answers.{Vettable, vetted, Judged}
 use Rattle.nodes.proofs.Nodes.{left_low, right_low, sides}
-use Rattle.search.proofs.Moves.{shares_swap, positions}
+use Rattle.search.proofs.Moves.{shares_swap}
 use Rattle.search.proofs.Found.{goal_low, both_in, parted, short_nodes, shown_codes, some_parts, none_parts, letter_of, chain_route, route_chain}
 use Rattle.search.proofs.Pivoting.{only_at, equal_swap}
 

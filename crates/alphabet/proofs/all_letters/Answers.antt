@@ -1,11 +1,10 @@
 -- The loop's invariant: all bytes are letters where those passed are, which `good` says, and those from i on. The measure is what is left
 -- of the text. Assumes nothing.
-use mathlib.Core.Path.{◌≡◌, refl, sym, ap, ◌∙◌}
+use mathlib.Core.Path.{refl, sym, ap, ◌∙◌}
 use mathlib.Core.Bool.{Bool, ◌&&◌, and-true, and_assoc}
-use Prim.Native.Nat.{◌+◌, ◌-◌, ◌≤◌}
+use Prim.Native.Nat.{◌+◌}
 use native.Mathlib.Omega.{arith}
-use lib.ListN.{length, drop, drop_of_length-le}
-use borrow.Author.Rules.{rules}
+use lib.ListN.{drop, drop_of_length-le}
 use Rattle.alphabet.specs.Alphabet.{all_letters}
 use Rattle.alphabet.proofs.Alphabet.{letters_from}
 use Rattle.alphabet.proofs.all_letters.Goals as goal

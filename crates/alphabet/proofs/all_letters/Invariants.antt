@@ -1,13 +1,10 @@
 -- The loop's invariant: all bytes are letters where those passed are, which `good` says, and those from i on. The measure is what is left
 -- of the text. Assumes nothing.
-use mathlib.Core.Path.{◌≡◌, refl, sym, ap, ◌∙◌}
-use mathlib.Core.Bool.{Bool, ◌&&◌, and-true, and_assoc}
-use Prim.Native.Nat.{◌+◌, ◌-◌, ◌≤◌}
-use native.Mathlib.Omega.{arith}
-use lib.ListN.{length, drop, drop_of_length-le}
-use borrow.Author.Rules.{rules}
+use mathlib.Core.Path.{◌≡◌}
+use mathlib.Core.Bool.{◌&&◌}
+use Prim.Native.Nat.{◌-◌, ◌≤◌}
+use lib.ListN.{length, drop}
 use Rattle.alphabet.specs.Alphabet.{all_letters}
-use Rattle.alphabet.proofs.Alphabet.{letters_from}
 use Rattle.alphabet.proofs.all_letters.Given as goal
 
 abbrev pub invariant-loop-i : goal.invariant-loop-i

@@ -1,14 +1,11 @@
 -- The loop's invariant: the entries from the first on that are below k are flipped. The measure is how many are left. Assumes nothing.
 use mathlib.Core.Path.{ap, ap₂, ◌∙◌}
 use mathlib.Core.Bool.{Bool, ◌&&◌, ◌||◌}
-use Prim.Native.Nat.{◌+◌, ◌-◌, ◌≤◌}
 use native.Mathlib.Omega.{arith}
 use lib.Dec.{leb}
 use lib.ListN.{get_or}
-use borrow.Author.Rules.{rules}
 use Rattle.basics.proofs.Tests.{below_next}
 use Rattle.bits.specs.Bits.{has_bit}
-use Rattle.alphabet.specs.Flipped.{Flipped}
 use Rattle.alphabet.proofs.Flipping.{between, flipped_bits, flip_none, flip_one, flip_same}
 use Rattle.alphabet.proofs.flip.Goals as goal
 

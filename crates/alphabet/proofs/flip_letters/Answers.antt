@@ -4,7 +4,6 @@ use mathlib.Core.Bool.{Bool, true, false, ◌&&◌}
 use Prim.Native.Nat.{ℕ}
 use native.Mathlib.Omega.{arith}
 use lib.Dec.{leb}
-use borrow.Author.Rules.{rules}
 use borrow.Author.Tests.{leb-true, lt-leb}
 use Rattle.basics.proofs.Tests.{and_parts}
 use Rattle.alphabet.proofs.Flipping.{flip_twice}

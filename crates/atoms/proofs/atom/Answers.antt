@@ -1,7 +1,6 @@
 -- The letters, and then the credit. Assumes nothing.
 use lib.ListN.{drop}
 use Rattle.pattern.specs.Grammar.{read_letter}
-use borrow.Author.Rules.{rules}
 use Rattle.atoms.proofs.atom.Goals as goal
 
 pub returns : goal.returns

@@ -3,12 +3,10 @@ use mathlib.Core.Path.{◌≡◌, sym, ◌∙◌, subst}
 use Prim.Native.Nat.{◌+◌, ◌-◌, ◌≤◌}
 use lib.ListN.{drop}
 use native.Mathlib.Omega.{arith}
-use borrow.Author.Tests.{not-true, not-false}
 use Rattle.pattern.specs.Grammar.{peek, read_credit}
 use Rattle.places.proofs.Places.{byte_within}
 use Rattle.atoms.specs.Atoms.{ReadsCredit}
 use Rattle.atoms.proofs.Lettering.{digit_range, credit_none, credit_on, credit_bad, credit_off, credit_off_bad}
-use borrow.Author.Rules.{rules}
 use Rattle.atoms.proofs.credit.Goals as goal
 
 pub returns-then-byte_at-ne61 : goal.returns-then-byte_at-ne61

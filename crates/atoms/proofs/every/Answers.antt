@@ -1,6 +1,5 @@
 -- All letters are the others of none. Assumes nothing.
 use Rattle.atoms.proofs.Lettering.{all_named}
-use borrow.Author.Rules.{rules}
 use Rattle.atoms.proofs.every.Goals as goal
 
 pub returns : goal.returns

@@ -2,7 +2,6 @@
 use lib.ListN.{drop}
 use Rattle.pattern.specs.Grammar.{read_letter}
 use Rattle.atoms.proofs.Lettering.{names_none, names_class, names_all, names_escaped, names_plain}
-use borrow.Author.Rules.{rules}
 use Rattle.atoms.proofs.names.Goals as goal
 
 pub returns-then-s-at : goal.returns-then-s-at

@@ -1,6 +1,5 @@
 -- The set of the letter alone. Assumes nothing.
 use Rattle.atoms.proofs.Lettering.{one_named}
-use borrow.Author.Rules.{rules}
 use Rattle.atoms.proofs.one.Goals as goal
 
 pub returns : goal.returns

@@ -1,6 +1,5 @@
 -- The letters and the credit, each by its contract. Assumes nothing.
 use Rattle.atoms.proofs.Lettering.{reads_atom}
-use borrow.Author.Rules.{rules}
 use Rattle.atoms.proofs.with_credit.Goals as goal
 
 pub returns : goal.returns

@@ -1,5 +1,4 @@
 -- The shift multiplies by a power of 2, and what is past 64 digits is cut off. Assumes nothing.
-use borrow.Author.Rules.{rules}
 use Rattle.bits.proofs.Laws.{has_shl}
 use Rattle.bits.proofs.moved.Goals as goal
 

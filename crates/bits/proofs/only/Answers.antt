@@ -1,5 +1,4 @@
 -- `1 << i` is 2 ^ i, whose one digit is at i. Assumes nothing.
-use borrow.Author.Rules.{rules}
 use Rattle.bits.proofs.Laws.{has_pow, one_shl}
 use Rattle.bits.proofs.only.Goals as goal
 

@@ -2,7 +2,6 @@
 use Prim.Native.Nat.{◌-◌}
 use native.Mathlib.Omega.{arith}
 use lib.Bits.{and_le_r}
-use borrow.Author.Rules.{rules}
 use Rattle.bits.proofs.Laws.{has_rest}
 use Rattle.bits.proofs.rest.Goals as goal
 

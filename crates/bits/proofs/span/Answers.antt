@@ -2,7 +2,6 @@
 use mathlib.Core.Path.{ap, ap₂, ◌∙◌}
 use mathlib.Core.Bool.{Bool, not, ◌&&◌, and_comm}
 use lib.Dec.{ltb, leb}
-use borrow.Author.Rules.{rules}
 use Rattle.basics.proofs.Tests.{not_less}
 use Rattle.bits.proofs.span.Goals as goal
 

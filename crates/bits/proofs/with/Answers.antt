@@ -1,5 +1,4 @@
 -- The law of `m | (1 << i)`. Assumes nothing.
-use borrow.Author.Rules.{rules}
 use Rattle.bits.proofs.Laws.{has_with}
 use Rattle.bits.proofs.with.Goals as goal
 

@@ -3,7 +3,6 @@ use mathlib.Core.Path.{sym, ap, ◌∙◌}
 use mathlib.Core.Bool.{Bool, ◌&&◌, ◌||◌, or-false}
 use lib.Dec.{eqb}
 use Rattle.bits.specs.Bits.{has_bit}
-use borrow.Author.Rules.{rules}
 use Rattle.bits.proofs.with_if.Goals as goal
 
 pub returns-then-yes : goal.returns-then-yes

@@ -1,6 +1,5 @@
 -- A digit more, three times. Assumes nothing.
 use native.Mathlib.Omega.{arith}
-use borrow.Author.Rules.{rules}
 use Rattle.bounds.proofs.Reading.{three}
 use Rattle.bounds.proofs.bound.Goals as goal
 

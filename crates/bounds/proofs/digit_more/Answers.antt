@@ -1,8 +1,6 @@
 -- By the test, which is that of the rules. Assumes nothing.
 use mathlib.Core.Path.{sym, ◌∙◌}
 use native.Mathlib.Omega.{arith}
-use borrow.Author.Rules.{rules}
-use borrow.Author.Tests.{not-true, not-false}
 use Rattle.bounds.proofs.Reading.{digit_is, digit_within, no_more, one_more}
 use Rattle.bounds.proofs.digit_more.Goals as goal
 

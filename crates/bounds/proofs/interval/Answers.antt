@@ -5,8 +5,6 @@ use mathlib.Core.List.{List}
 use Prim.Native.Nat.{ℕ, ◌+◌, ◌<◌}
 use native.Mathlib.Omega.{arith}
 use lib.ListN.{drop}
-use borrow.Author.Rules.{rules}
-use borrow.Author.Tests.{not-true, not-false}
 use Rattle.places.proofs.Places.{next_within}
 use Rattle.pattern.specs.Grammar.{peek, is_digit}
 use Rattle.bounds.proofs.Reading.{reads_none, reads_to, no_digit, exactly, neither, from, no_second, not_closed, from_to}

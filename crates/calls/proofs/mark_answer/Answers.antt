@@ -5,7 +5,6 @@ use Prim.Native.Nat.{ℕ}
 use native.Mathlib.Omega.{arith}
 use lib.ListN.{length, length-replicate}
 use borrow.Author.Rules.{rules}
-use borrow.Author.Tests.{not-true, not-false}
 use Rattle.basics.proofs.Lists.{zeros}
 use Rattle.calls.proofs.Marking.{by_pattern, too_long, no_text, accepted, says_refusal, says_mark}
 use Rattle.calls.proofs.mark_answer.Goals as goal

@@ -1,16 +1,13 @@
 -- All copies are made, and each turn joins one more to the chain. The measure is how many are left to join. Assumes nothing.
 use mathlib.Core.Path.{◌∙◌}
-use Prim.Native.Nat.{◌-◌}
-use native.Mathlib.Omega.{arith}
-use borrow.Author.Rules.{rules}
-use Rattle.chains.proofs.Growing.{Sofar, begins, has_room, goes_on, stops}
+use Rattle.chains.proofs.Growing.{begins, has_room, goes_on, stops}
 use Rattle.chains.proofs.chain.Goals as goal
 
 pub loop-i-init : goal.loop-i-init
-loop-i-init c =  begins _ _ _ _ _ _ c.requires.2 c.requires.3 c.copy.ensures.1
+loop-i-init c = begins _ _ _ _ _ _ c.requires.2 c.requires.3 c.copy.ensures.1
 
 pub next-one-requires : goal.next-one-requires
-next-one-requires c =  has_room _ _ _ _ _ _ c.requires.2 c.requires.3 _ _ _ _ _ c.loop-i.invariant c.loop-i-test.true
+next-one-requires c = has_room _ _ _ _ _ _ c.requires.2 c.requires.3 _ _ _ _ _ c.loop-i.invariant c.loop-i-test.true
 
 pub join-all-requires : goal.join-all-requires
 join-all-requires c = c.loop-i.invariant.rows_are

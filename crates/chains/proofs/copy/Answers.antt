@@ -1,8 +1,7 @@
 -- Each turn makes one copy more. The measure is how many are left to make. Assumes nothing.
 use mathlib.Core.Path.{◌∙◌}
-use Prim.Native.Nat.{◌-◌}
 use native.Mathlib.Omega.{arith}
-use Rattle.chains.proofs.Growing.{Making, making_none, making_room, making_more, making_all}
+use Rattle.chains.proofs.Growing.{making_none, making_room, making_more, making_all}
 use Rattle.chains.proofs.copy.Goals as goal
 
 pub loop-made-init : goal.loop-made-init

@@ -1,8 +1,6 @@
 -- Each turn makes one copy more. The measure is how many are left to make. Assumes nothing.
-use mathlib.Core.Path.{◌∙◌}
 use Prim.Native.Nat.{◌-◌}
-use native.Mathlib.Omega.{arith}
-use Rattle.chains.proofs.Growing.{Making, making_none, making_room, making_more, making_all}
+use Rattle.chains.proofs.Growing.{Making}
 use Rattle.chains.proofs.copy.Given as goal
 
 abbrev pub invariant-loop-made : goal.invariant-loop-made

@@ -1,7 +1,6 @@
 -- The copies of the rows and, where there are any, of the numbers of links, as their contracts have it. Assumes nothing.
 use mathlib.Core.Path.{refl, sym, ◌∙◌}
 use mathlib.Core.Bool.{true≢false}
-use borrow.Author.Rules.{rules}
 use Rattle.chains.proofs.next_rows.Goals as goal
 
 pub returns-then-doubled : goal.returns-then-doubled

@@ -3,7 +3,6 @@ use mathlib.Core.Path.{sym, ◌∙◌}
 use native.Mathlib.Omega.{arith}
 use Rattle.places.proofs.Places.{byte_within}
 use Rattle.classes.proofs.Classing.{class_plain, class_others}
-use borrow.Author.Rules.{rules}
 use Rattle.classes.proofs.class.Goals as goal
 
 pub returns-then-byte_at-ne94 : goal.returns-then-byte_at-ne94

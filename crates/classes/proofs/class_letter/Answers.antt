@@ -1,6 +1,5 @@
 -- One law for each way to return. Assumes nothing.
 use Rattle.classes.proofs.Members.{letter_none, letter_escaped, letter_plain}
-use borrow.Author.Rules.{rules}
 use Rattle.classes.proofs.class_letter.Goals as goal
 
 pub returns-then-s-at : goal.returns-then-s-at

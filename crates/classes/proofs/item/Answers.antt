@@ -1,11 +1,9 @@
 -- One law for each way to return. Assumes nothing.
 use mathlib.Core.Path.{sym, ◌∙◌, subst}
 use native.Mathlib.Omega.{arith}
-use borrow.Author.Tests.{not-true, not-false}
 use Rattle.classes.specs.Classes.{ReadsItem}
 use Rattle.places.proofs.Places.{byte_within}
 use Rattle.classes.proofs.Members.{item_end, item_none, item_one, item_two}
-use borrow.Author.Rules.{rules}
 use Rattle.std.proofs.lemmas.Bool.{not-false as not_is_false, not-true as not_is_true}
 use Rattle.classes.proofs.item.Goals as goal
 

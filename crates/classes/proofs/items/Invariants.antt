@@ -1,15 +1,12 @@
 -- The loop's invariant: whatever results from reading on from here, with the set and the flags so far, is what the rules read
 -- from the start. The measure is what is left of the text. Assumes nothing.
-use borrow.Author.Tests.{not-true, not-false}
 use mathlib.Core.List.{[]}
 use Prim.Native.Nat.{ℕ, ◌-◌, ◌<◌}
-use native.Mathlib.Omega.{arith}
-use borrow.Author.Rules.{rules}
 use lib.ListN.{length, drop}
 use Rattle.pattern.specs.Grammar.{items_from}
 use Rattle.classes.specs.declared.Named.{Named}
 use Rattle.classes.specs.Classes.{ReadsItems}
-use Rattle.classes.proofs.Members.{ReadsOn, sofar_none, read_one, read_end}
+use Rattle.classes.proofs.Members.{ReadsOn}
 use Rattle.classes.proofs.items.Given as goal
 
 abbrev pub invariant-loop-set : goal.invariant-loop-set

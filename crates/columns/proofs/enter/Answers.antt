@@ -1,10 +1,10 @@
 -- What is still to be entered is what is left of the set. Assumes nothing.
 use mathlib.Core.Path.{ap, ◌∙◌}
-use Prim.Native.Nat.{ℕ, ◌<◌, ◌^◌}
+use Prim.Native.Nat.{ℕ}
 use native.Mathlib.Omega.{arith}
 use Rattle.bits.specs.Bits.{has_bit}
 use Rattle.bits.proofs.Laws.{has_none, member_below}
-use Rattle.columns.proofs.Columns.{Entering, enter_start, enter_on, enter_end}
+use Rattle.columns.proofs.Columns.{enter_start, enter_on, enter_end}
 use Rattle.columns.proofs.enter.Goals as goal
 
 pub loop-left-init : goal.loop-left-init

@@ -1,8 +1,7 @@
 -- What is still to be entered is what is left of the set. Assumes nothing.
-use borrow.Author.Tests.{not-true, not-false}
 use native.Mathlib.Omega.{arith}
-use Rattle.letters.specs.LetterSet.{has_letter, weight}
-use Rattle.columns.proofs.Columns.{Entering, enter_start, enter_on, enter_end}
+use Rattle.letters.specs.LetterSet.{has_letter}
+use Rattle.columns.proofs.Columns.{enter_start, enter_on, enter_end}
 use Rattle.columns.proofs.enter_letters.Goals as goal
 
 pub loop-left-init : goal.loop-left-init

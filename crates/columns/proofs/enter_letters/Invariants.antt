@@ -1,8 +1,6 @@
 -- What is still to be entered is what is left of the set. Assumes nothing.
-use borrow.Author.Tests.{not-true, not-false}
-use native.Mathlib.Omega.{arith}
 use Rattle.letters.specs.LetterSet.{has_letter, weight}
-use Rattle.columns.proofs.Columns.{Entering, enter_start, enter_on, enter_end}
+use Rattle.columns.proofs.Columns.{Entering}
 use Rattle.columns.proofs.enter_letters.Given as goal
 
 abbrev pub invariant-loop-left : goal.invariant-loop-left

@@ -1,16 +1,14 @@
 -- The first i rows are entered, those of wide sets by what they lack, and in the end these are flipped. Assumes nothing.
 use mathlib.Core.Path.{◌≡◌, refl, sym, ap, ◌∙◌, subst}
-use Prim.Native.Nat.{ℕ, ◌+◌, ◌-◌, ◌≤◌}
+use Prim.Native.Nat.{ℕ, ◌+◌}
 use native.Mathlib.Omega.{arith}
-use lib.ListN.{length}
-use borrow.Author.Rules.{rules}
 use Rattle.bits.specs.Bits.{has_bit}
 use Rattle.bits.proofs.Laws.{has_none}
 use Rattle.letters.specs.LetterSet.{has_letter, set_at}
 use Rattle.letters.specs.declared.LetterSet.{LetterSet}
 use Rattle.columns.specs.Tables.{Columns}
 use Rattle.columns.proofs.Columns.{columns_start}
-use Rattle.columns.proofs.Wide.{is_entered, Chosen, chosen_wide, chosen_own, WideBelow, wide_on, rows_on, all_flipped, none_flipped}
+use Rattle.columns.proofs.Wide.{is_entered, Chosen, chosen_wide, chosen_own, wide_on, rows_on, all_flipped, none_flipped}
 use Rattle.columns.proofs.holders_of.Goals as goal
 use Rattle.columns.proofs.holders_of.Goals.{then-is_wide, else-is_wide}
 
@@ -29,10 +27,10 @@ loop-i-preserved c =
     let sets = c.args.sets in
     let at = c.loop-i in
     elim c.if-is_wide.branch [
-      then-is_wide w ↦
-        chosen_wide sets at.i at.wide c.if-is_wide.s c.if-is_wide.wide (λ k. ap (λ (t : LetterSet). has_letter t k) w.s-is ∙ w.complement-s.ensures k)
-        (λ j. ap (λ (m : ℕ). has_bit m j) w.wide-is ∙ w.with-wide.ensures j)
-    | else-is_wide w ↦ chosen_own sets at.i at.wide c.if-is_wide.s c.if-is_wide.wide w.s-is w.wide-is
+      | then-is_wide w ↦
+          chosen_wide sets at.i at.wide c.if-is_wide.s c.if-is_wide.wide (λ k. ap (λ (t : LetterSet). has_letter t k) w.s-is ∙ w.complement-s.ensures k)
+          (λ j. ap (λ (m : ℕ). has_bit m j) w.wide-is ∙ w.with-wide.ensures j)
+      | else-is_wide w ↦ chosen_own sets at.i at.wide c.if-is_wide.s c.if-is_wide.wide w.s-is w.wide-is
     ] in
     let sets = c.args.sets in
     let at = c.loop-i in

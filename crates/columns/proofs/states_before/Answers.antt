@@ -1,8 +1,8 @@
 -- The first u rows are entered. Assumes nothing.
 use mathlib.Core.Path.{◌≡◌, refl, sym, ◌∙◌, subst}
-use Prim.Native.Nat.{ℕ, ◌+◌, ◌-◌, ◌≤◌}
+use Prim.Native.Nat.{ℕ, ◌+◌}
 use native.Mathlib.Omega.{arith}
-use lib.ListN.{length, get_or}
+use lib.ListN.{get_or}
 use Rattle.bits.specs.Bits.{has_bit}
 use Rattle.columns.specs.Tables.{Columns}
 use Rattle.columns.proofs.Columns.{columns_start, columns_on}

@@ -1,11 +1,9 @@
 -- The first u rows are entered. Assumes nothing.
-use mathlib.Core.Path.{◌≡◌, refl, sym, ◌∙◌, subst}
-use Prim.Native.Nat.{ℕ, ◌+◌, ◌-◌, ◌≤◌}
-use native.Mathlib.Omega.{arith}
+use mathlib.Core.Path.{◌≡◌}
+use Prim.Native.Nat.{◌+◌, ◌-◌, ◌≤◌}
 use lib.ListN.{length, get_or}
 use Rattle.bits.specs.Bits.{has_bit}
 use Rattle.columns.specs.Tables.{Columns}
-use Rattle.columns.proofs.Columns.{columns_start, columns_on}
 use Rattle.columns.proofs.states_before.Given as goal
 
 abbrev pub invariant-loop-u : goal.invariant-loop-u

@@ -1,6 +1,6 @@
 -- The entries up to i have their copies. The measure is how many are left. Assumes nothing.
 use mathlib.Core.Path.{◌≡◌, refl, subst}
-use Prim.Native.Nat.{ℕ, ◌-◌, ◌≤◌}
+use Prim.Native.Nat.{ℕ}
 use native.Mathlib.Omega.{arith}
 use Rattle.copies.specs.Copies.{Repeats, Same}
 use Rattle.copies.proofs.Copying.{repeats_none, repeats_more}

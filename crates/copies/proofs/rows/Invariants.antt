@@ -1,9 +1,6 @@
 -- The entries up to i have their copies. The measure is how many are left. Assumes nothing.
-use mathlib.Core.Path.{◌≡◌, subst}
-use Prim.Native.Nat.{ℕ, ◌-◌, ◌≤◌}
-use native.Mathlib.Omega.{arith}
+use Prim.Native.Nat.{◌-◌, ◌≤◌}
 use Rattle.copies.specs.Copies.{Repeats, Moved}
-use Rattle.copies.proofs.Copying.{repeats_none, repeats_more}
 use Rattle.copies.proofs.rows.Given as goal
 
 abbrev pub invariant-loop-i : goal.invariant-loop-i

@@ -1,10 +1,6 @@
 -- The entries up to i have their copies. The measure is how many are left. Assumes nothing.
-use mathlib.Core.Path.{◌≡◌, refl, subst}
-use Prim.Native.Nat.{ℕ, ◌-◌, ◌≤◌}
-use native.Mathlib.Omega.{arith}
-use borrow.Author.Rules.{rules}
+use Prim.Native.Nat.{◌-◌, ◌≤◌}
 use Rattle.copies.specs.Copies.{Repeats, Same}
-use Rattle.copies.proofs.Copying.{repeats_none, repeats_more}
 use Rattle.copies.proofs.words.Given as goal
 
 abbrev pub invariant-loop-i : goal.invariant-loop-i

@@ -1,5 +1,5 @@
 -- Nothing is stored without a member; else the two stores are of what `gather_for` gives. Assumes nothing.
-use Rattle.std.proofs.Common.{ℕ, ◌+◌, ◌%◌, ◌^◌, ap, ◌∙◌, rules}
+use Rattle.std.proofs.Common.{ℕ, ◌+◌, ◌%◌, ◌^◌, ap, ◌∙◌}
 use Rattle.frontier.specs.Rows.{cell, count_of, weighted}
 use Rattle.frontier.proofs.Fills.{stored_none, stored_some}
 use Rattle.frontier.proofs.fill.Goals as goal

@@ -2,7 +2,7 @@
 use Rattle.std.proofs.Common.{arith}
 use Rattle.bits.proofs.Laws.{member_below}
 use Rattle.frontier.specs.Rows.{cell}
-use Rattle.frontier.proofs.Gathers.{Gathering, gathering_start, gathering_on, gathering_end}
+use Rattle.frontier.proofs.Gathers.{gathering_start, gathering_on, gathering_end}
 use Rattle.frontier.proofs.gather.Goals as goal
 
 pub loop-left-init : goal.loop-left-init

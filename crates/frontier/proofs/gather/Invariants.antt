@@ -1,8 +1,6 @@
 -- At a turn the least member of what is left goes over. Assumes nothing.
-use Rattle.std.proofs.Common.{arith}
-use Rattle.bits.proofs.Laws.{member_below}
 use Rattle.frontier.specs.Rows.{cell}
-use Rattle.frontier.proofs.Gathers.{Gathering, gathering_start, gathering_on, gathering_end}
+use Rattle.frontier.proofs.Gathers.{Gathering}
 use Rattle.frontier.proofs.gather.Given as goal
 
 abbrev pub invariant-loop-left : goal.invariant-loop-left

@@ -1,5 +1,4 @@
 -- By whether there can be more links than one. Assumes nothing.
-use Rattle.std.proofs.Common.{rules}
 use Rattle.frontier.specs.Rows.{cell}
 use Rattle.frontier.proofs.Gathers.{by_weights, one_link}
 use Rattle.frontier.proofs.gather_for.Goals as goal

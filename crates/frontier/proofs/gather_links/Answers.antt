@@ -2,7 +2,7 @@
 use Rattle.std.proofs.Common.{ℕ, ◌+◌, ◌^◌, min, true, ap, ◌∙◌, arith}
 use Rattle.bits.proofs.Laws.{member_below}
 use Rattle.frontier.specs.Rows.{cell, weighted}
-use Rattle.frontier.proofs.Gathers.{Gathering, gathering_start, gathering_on, gathering_end, cut_sum}
+use Rattle.frontier.proofs.Gathers.{gathering_start, gathering_on, gathering_end, cut_sum}
 use Rattle.frontier.proofs.gather_links.Goals as goal
 
 pub loop-left-init : goal.loop-left-init

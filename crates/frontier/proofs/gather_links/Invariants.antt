@@ -1,8 +1,7 @@
 -- As in `gather`, with the product cut before it is added. Assumes nothing.
-use Rattle.std.proofs.Common.{ℕ, ◌+◌, ◌^◌, min, true, ap, ◌∙◌, arith}
-use Rattle.bits.proofs.Laws.{member_below}
+use Rattle.std.proofs.Common.{true}
 use Rattle.frontier.specs.Rows.{cell, weighted}
-use Rattle.frontier.proofs.Gathers.{Gathering, gathering_start, gathering_on, gathering_end, cut_sum}
+use Rattle.frontier.proofs.Gathers.{Gathering}
 use Rattle.frontier.proofs.gather_links.Given as goal
 
 abbrev pub invariant-loop-left : goal.invariant-loop-left

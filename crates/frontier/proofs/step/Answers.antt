@@ -2,7 +2,7 @@
 use Rattle.std.proofs.Common.{get_or, lt_of_le_of_lt, arith}
 use lib.Bits.{and_le_r}
 use Rattle.bits.proofs.Laws.{member_below}
-use Rattle.frontier.proofs.Fills.{Filling, filling_start, filling_on, filling_end}
+use Rattle.frontier.proofs.Fills.{filling_start, filling_on, filling_end}
 use Rattle.frontier.proofs.step.Goals as goal
 
 pub loop-left-init : goal.loop-left-init

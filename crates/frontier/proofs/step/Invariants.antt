@@ -1,8 +1,5 @@
 -- The new row is filled for the positions that are not left. Assumes nothing.
-use Rattle.std.proofs.Common.{get_or, lt_of_le_of_lt, arith}
-use lib.Bits.{and_le_r}
-use Rattle.bits.proofs.Laws.{member_below}
-use Rattle.frontier.proofs.Fills.{Filling, filling_start, filling_on, filling_end}
+use Rattle.frontier.proofs.Fills.{Filling}
 use Rattle.frontier.proofs.step.Given as goal
 
 abbrev pub invariant-loop-left : goal.invariant-loop-left

@@ -1,5 +1,5 @@
 -- The product is 256 times that of the 256th part, and less than 2^16 more. Assumes nothing.
-use Rattle.std.proofs.Common.{◌≡◌, ℕ, ◌+◌, ◌-◌, ◌*◌, ◌/◌, ◌%◌, ◌^◌, ◌≤◌, sym, ap, ◌∙◌, mul_assoc, add-mul, mul-le-mul, arith, rules}
+use Rattle.std.proofs.Common.{◌≡◌, ℕ, ◌+◌, ◌-◌, ◌*◌, ◌/◌, ◌%◌, ◌^◌, ◌≤◌, sym, ap, ◌∙◌, mul_assoc, add-mul, mul-le-mul, arith}
 use native.Mathlib.Nat.{div-add-mod}
 use Rattle.frontier.proofs.times.Goals as goal
 

@@ -1,7 +1,6 @@
 -- The slot's half says what to add. Assumes nothing.
 use mathlib.Core.Path.{sym}
 use native.Mathlib.Omega.{arith}
-use borrow.Author.Rules.{rules}
 use Rattle.letters.proofs.Slots.{code_low, code_high}
 use Rattle.letters.proofs.code_at.Goals as goal
 

@@ -2,8 +2,6 @@
 -- left decide, and after the last one the lowest letter of all. Assumes nothing.
 use mathlib.Core.Path.{◌≡◌, ◌∙◌}
 use mathlib.Core.List.{[], ◌∷◌}
-use borrow.Author.Rules.{rules}
-use borrow.Author.Tests.{not-true, not-false}
 use Rattle.letters.specs.LetterSet.{has_letter}
 use Rattle.letters.specs.Order.{small, capital, digit, first_by, first_letter}
 use Rattle.letters.proofs.Sets.{only_letters, lowest_same}

@@ -1,8 +1,6 @@
 -- The code has a slot in the one half or in the other, or none. Assumes nothing.
 use mathlib.Core.Path.{sym, ap, ◌∙◌}
-use Prim.Native.Nat.{◌-◌}
 use native.Mathlib.Omega.{arith}
-use borrow.Author.Rules.{rules}
 use Rattle.letters.specs.LetterSet.{in_slot}
 use Rattle.letters.proofs.Slots.{has_low, has_high, no_slot, slot_low, slot_high}
 use Rattle.letters.proofs.Sets.{not_in, is_in_its_slot}

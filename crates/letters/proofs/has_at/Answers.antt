@@ -2,7 +2,6 @@
 use mathlib.Core.Path.{◌≡◌, sym, ap, ◌∙◌}
 use Prim.Native.Nat.{◌+◌, ◌-◌}
 use native.Mathlib.Omega.{arith}
-use borrow.Author.Rules.{rules}
 use Rattle.letters.specs.LetterSet.{in_slot}
 use Rattle.letters.proofs.Sets.{at_low, at_middle, at_high}
 use Rattle.letters.proofs.has_at.Goals as goal

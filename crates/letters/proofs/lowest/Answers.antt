@@ -1,7 +1,6 @@
 -- The words stand in the order of their codes, so the lowest letter is the least member of the first word that is not empty. Assumes nothing.
 use mathlib.Core.Path.{sym, ap, ◌∙◌, subst}
 use native.Mathlib.Omega.{arith}
-use borrow.Author.Rules.{rules}
 use Rattle.letters.specs.LetterSet.{code_at, LeastLetter}
 use Rattle.letters.proofs.Sets.{least_of, low_word, middle_word, high_word, high_some}
 use Rattle.letters.proofs.lowest.Goals as goal

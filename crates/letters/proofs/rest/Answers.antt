@@ -2,7 +2,6 @@
 -- off the set. Assumes nothing.
 use mathlib.Core.Path.{refl, sym, ◌∙◌}
 use native.Mathlib.Omega.{arith}
-use borrow.Author.Rules.{rules}
 use Rattle.letters.specs.declared.LetterSet.{LetterSet}
 use Rattle.letters.proofs.Sets.{at_past, rest_of, low_word, middle_word, high_word, high_some, same_from_middle, same_from_high}
 use Rattle.letters.proofs.rest.Goals as goal

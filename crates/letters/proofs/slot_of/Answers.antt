@@ -2,7 +2,6 @@
 use mathlib.Core.Path.{sym}
 use Prim.Native.Nat.{◌≤◌}
 use native.Mathlib.Omega.{arith}
-use borrow.Author.Rules.{rules}
 use Rattle.letters.proofs.Slots.{by_half, slot_low, slot_high}
 use Rattle.letters.proofs.slot_of.Goals as goal
 

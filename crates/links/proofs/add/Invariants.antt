@@ -1,16 +1,10 @@
 -- The loop's invariant: what the entries are, with those left to come, is what they were to be at the start. The set of those left
 -- is the measure. Assumes nothing.
-use mathlib.Core.Path.{◌≡◌, refl, sym, ◌∙◌}
+use mathlib.Core.Path.{◌≡◌}
 use mathlib.Core.Bool.{true}
-use Prim.Native.Nat.{ℕ, ◌<◌, ◌≤◌, ◌^◌}
-use native.Mathlib.Nat.{le_refl}
-use native.Mathlib.Omega.{arith}
-use lib.ListN.{length-set}
-use borrow.Author.Rules.{rules}
-use Rattle.bits.specs.Bits.{Least}
-use Rattle.bits.proofs.Laws.{member_below}
+use Prim.Native.Nat.{ℕ, ◌≤◌}
 use Rattle.links.specs.Rows.{kept, Room}
-use Rattle.links.proofs.Counting.{to_further, further_turn, further_end}
+use Rattle.links.proofs.Counting.{to_further}
 use Rattle.links.proofs.add.Given as goal
 
 abbrev pub invariant-loop-left : goal.invariant-loop-left

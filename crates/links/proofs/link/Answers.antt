@@ -1,15 +1,14 @@
 -- The loop's invariant: what the rows have, with those left to come, is what was to come at the start. The set of those left is
 -- the measure. Assumes nothing.
-use mathlib.Core.Path.{◌≡◌, refl, ap, ◌∙◌}
+use mathlib.Core.Path.{refl, ap, ◌∙◌}
 use mathlib.Core.Bool.{Bool, ◌&&◌, ◌||◌}
 use Prim.Native.Nat.{ℕ, ◌<◌, ◌^◌}
 use native.Mathlib.Omega.{arith}
-use lib.ListN.{length, get_or, length-set}
-use borrow.Author.Rules.{rules}
+use lib.ListN.{get_or, length-set}
 use borrow.Author.Tests.{le-ltb}
 use Rattle.bits.specs.Bits.{has_bit, Least}
 use Rattle.bits.proofs.Laws.{lt_of_high, member_below}
-use Rattle.links.proofs.Linking.{to_come, link_turn, link_end}
+use Rattle.links.proofs.Linking.{link_turn, link_end}
 use Rattle.links.proofs.link.Goals as goal
 
 -- a member has a row

@@ -1,20 +1,19 @@
 -- The loop's invariant: what the rows have and the numbers of links are, with those left to come, is what was to come at the start;
 -- and where none was linked before, no number has changed. The set of those left is the measure. Assumes nothing.
 use mathlib.Core.Path.{◌≡◌, refl, ap, ◌∙◌}
-use mathlib.Core.Bool.{Bool, true, false, not, ◌&&◌, ◌||◌, and-false}
+use mathlib.Core.Bool.{Bool, false, not, ◌&&◌, ◌||◌, and-false}
 use Prim.Native.Nat.{ℕ, ◌<◌, ◌≤◌, ◌^◌}
 use native.Mathlib.Omega.{arith}
 use lib.Dec.{eqb}
-use lib.ListN.{length, get_or, length-set}
-use borrow.Author.Rules.{rules}
+use lib.ListN.{get_or, length-set}
 use borrow.Author.Tests.{le-ltb, eqb-true, not-false}
-use Rattle.basics.specs.Choice.{if◌then◌else◌}
+use Rattle.std.specs.Prelude.{if◌then◌else◌}
 use Rattle.basics.proofs.Tests.{or_parts}
 use Rattle.bits.specs.Bits.{has_bit, Least}
 use Rattle.bits.proofs.Laws.{lt_of_high, member_below}
 use Rattle.links.specs.Rows.{kept, entry, number, after}
-use Rattle.links.proofs.Linking.{to_come, link_turn, link_end}
-use Rattle.links.proofs.Counting.{to_count, count_turn, count_end, further_small}
+use Rattle.links.proofs.Linking.{link_turn, link_end}
+use Rattle.links.proofs.Counting.{count_turn, count_end, further_small}
 use Rattle.links.proofs.link_again.Goals as goal
 
 -- a member has a row
@@ -27,14 +26,14 @@ few all m n e f j h = f j ∙ ap (λ (t : Bool). t && has_bit m j) (e j ∙ le-l
 
 pub loop-left-init : goal.loop-left-init
 loop-left-init c = (
-      c.requires.0,
-      lt_of_high 61 c.intersection-left.result c.intersection-left.type_inv (few c.below-all.result c.args.lasts c.intersection-left.result c.below-all.ensures c.intersection-left.ensures),
-      λ a b. refl,
-      refl,
-      λ a b k. omega (arith, c.slice_known-1.given (entry a b)),
-      λ a b k. refl,
-      λ e. refl,
-    )
+  c.requires.0,
+  lt_of_high 61 c.intersection-left.result c.intersection-left.type_inv (few c.below-all.result c.args.lasts c.intersection-left.result c.below-all.ensures c.intersection-left.ensures),
+  λ a b. refl,
+  refl,
+  λ a b k. omega (arith, c.slice_known-1.given (entry a b)),
+  λ a b k. refl,
+  λ e. refl,
+)
 
 pub bounds-rows-a : goal.bounds-rows-a
 bounds-rows-a c = index c.loop-left.invariant.1 c.lowest-a.ensures.1

@@ -1,20 +1,12 @@
 -- The loop's invariant: what the rows have and the numbers of links are, with those left to come, is what was to come at the start;
 -- and where none was linked before, no number has changed. The set of those left is the measure. Assumes nothing.
-use mathlib.Core.Path.{◌≡◌, refl, ap, ◌∙◌}
-use mathlib.Core.Bool.{Bool, true, false, not, ◌&&◌, ◌||◌, and-false}
-use Prim.Native.Nat.{ℕ, ◌<◌, ◌≤◌, ◌^◌}
-use native.Mathlib.Omega.{arith}
-use lib.Dec.{eqb}
-use lib.ListN.{length, get_or, length-set}
-use borrow.Author.Rules.{rules}
-use borrow.Author.Tests.{le-ltb, eqb-true, not-false}
-use Rattle.basics.specs.Choice.{if◌then◌else◌}
-use Rattle.basics.proofs.Tests.{or_parts}
-use Rattle.bits.specs.Bits.{has_bit, Least}
-use Rattle.bits.proofs.Laws.{lt_of_high, member_below}
-use Rattle.links.specs.Rows.{kept, entry, number, after}
-use Rattle.links.proofs.Linking.{to_come, link_turn, link_end}
-use Rattle.links.proofs.Counting.{to_count, count_turn, count_end, further_small}
+use mathlib.Core.Path.{◌≡◌}
+use mathlib.Core.Bool.{true, false}
+use Prim.Native.Nat.{ℕ, ◌<◌, ◌^◌}
+use lib.ListN.{length, get_or}
+use Rattle.links.specs.Rows.{kept, entry}
+use Rattle.links.proofs.Linking.{to_come}
+use Rattle.links.proofs.Counting.{to_count}
 use Rattle.links.proofs.link_again.Given as goal
 
 abbrev pub invariant-loop-left : goal.invariant-loop-left

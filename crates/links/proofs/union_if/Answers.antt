@@ -1,7 +1,6 @@
 -- By the condition. Assumes nothing.
 use mathlib.Core.Path.{sym}
 use mathlib.Core.Bool.{or-false}
-use borrow.Author.Rules.{rules}
 use Rattle.bits.specs.Bits.{has_bit}
 use Rattle.links.proofs.union_if.Goals as goal
 

@@ -1,8 +1,6 @@
 -- The scratch is 8,192 numbers; what they are plays no part. Assumes nothing.
-use mathlib.Core.Path.{refl}
 use Prim.Native.Nat.{ℕ}
 use lib.ListN.{replicate, length-replicate}
-use borrow.Author.Rules.{rules}
 use Rattle.marking.proofs.marking_vet.Goals as goal
 
 pub returns : goal.returns

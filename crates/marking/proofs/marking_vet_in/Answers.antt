@@ -1,5 +1,4 @@
 -- The packing of what vetting gives; the lengths fit their fields. Assumes nothing.
-use borrow.Author.Rules.{rules}
 use Rattle.marking.proofs.Packing.{fits}
 use Rattle.marking.proofs.marking_vet_in.Goals as goal
 

@@ -62,19 +62,19 @@ module _ (z : ℤ) (f : SFits w32 z) where
     plain_cast = (subst (λ (v : ℤ). T (non_neg v)) (sym kept) plain_kept.0, subst (Fits w64) (sym plain_is) (record { fits = let l = bits_low z f.sfits in omega arith }))
 
 pub overflow_cast-result : goal.overflow_cast-result
-overflow_cast-result c =  subst (SFits w64) (sym (kept c.args.n c.ranges.n)) (wide c.args.n c.ranges.n)
+overflow_cast-result c = subst (SFits w64) (sym (kept c.args.n c.ranges.n)) (wide c.args.n c.ranges.n)
 
 pub overflow_add-result : goal.overflow_add-result
-overflow_add-result c =  sum_fits c.args.n c.ranges.n c.if-n-lt0.true
+overflow_add-result c = sum_fits c.args.n c.ranges.n c.if-n-lt0.true
 
 pub overflow_cast-result-then-n-lt0 : goal.overflow_cast-result-then-n-lt0
-overflow_cast-result-then-n-lt0 c =  sum_cast c.args.n c.ranges.n c.if-n-lt0.true
+overflow_cast-result-then-n-lt0 c = sum_cast c.args.n c.ranges.n c.if-n-lt0.true
 
 pub returns-then-n-lt0 : goal.returns-then-n-lt0
-returns-then-n-lt0 c =  ap nat_abs (sum_kept c.args.n c.ranges.n c.if-n-lt0.true)
+returns-then-n-lt0 c = ap nat_abs (sum_kept c.args.n c.ranges.n c.if-n-lt0.true)
 
 pub overflow_cast-result-2 : goal.overflow_cast-result-2
-overflow_cast-result-2 c =  plain_cast c.args.n c.ranges.n c.if-n-lt0.false
+overflow_cast-result-2 c = plain_cast c.args.n c.ranges.n c.if-n-lt0.false
 
 pub returns : goal.returns
-returns c =  plain_is c.args.n c.ranges.n c.if-n-lt0.false
+returns c = plain_is c.args.n c.ranges.n c.if-n-lt0.false

@@ -13,7 +13,6 @@ use borrow.Author.Tests.{eq-eqb, ne_eqb}
 use Rattle.basics.proofs.Tests.{le_or_lt, if_yes, if_no}
 use Rattle.basics.proofs.Integers.{sub_pos, sub_neg, sub_diff}
 use Rattle.graph.specs.Built.{lowered}
-use borrow.Author.Rules.{rules}
 use Rattle.marks.proofs.mark_of_sum.Goals as goal
 
 difference : (a b : ℕ) → a < 2 ^ 31 → b < 2 ^ 31 → to_z w32 a -ℤ to_z w32 b ≡ sub_ℕ a b

@@ -1,24 +1,20 @@
 -- The rows say at every letter what they are to say. Assumes nothing.
 use mathlib.Core.Path.{◌≡◌, refl, sym, ap, ◌∙◌, subst}
 use mathlib.Core.Logic.{◌⊎◌, inl, inr, ⊎_elim}
-use mathlib.Core.Bool.{Bool, false}
 use mathlib.Core.List.{List}
-use Prim.Native.Nat.{ℕ, ◌-◌, ◌≤◌, ◌<◌, ◌^◌, zero-le}
+use Prim.Native.Nat.{ℕ, ◌-◌, ◌≤◌, zero-le}
 use native.Mathlib.Nat.{lt_of_le_of_lt, not-suc-le-zero}
 use native.Mathlib.Numerals.{add-one}
 use native.Mathlib.Omega.{arith}
 use lib.Bits.{and_le_l}
-use lib.Dec.{eqb}
 use lib.ListN.{length, get_or, take, drop, length-set, take-append-drop}
 use lib.Seq.{get_or-set_same, take-suc, take_all, length-take-le}
-use borrow.Author.Tests.{eqb-true, eq-eqb, ne_eqb}
+use borrow.Author.Tests.{eq-eqb, ne_eqb}
 use Rattle.basics.proofs.Tests.{by_equal}
-use Rattle.graph.specs.Graph.{Bounded}
 use Rattle.graph.specs.Taken.{dead}
 use Rattle.graph.proofs.Taken.{taken_is}
 use Rattle.marks.specs.Answers.{Row, graph_of_tables, Summed}
 use Rattle.marks.proofs.Forward.{row_begin, row_on, row_stop, row_dead, row_end}
-use Rattle.marks.proofs.run.Invariants.{Running}
 use Rattle.marks.proofs.run.Goals as goal
 use Rattle.marks.proofs.run.Goals.{then-loop-k-test+else-active-ne0, else-loop-k-test}
 

@@ -1,23 +1,13 @@
 -- The rows say at every letter what they are to say. Assumes nothing.
-use mathlib.Core.Path.{◌≡◌, refl, sym, ap, ◌∙◌, subst}
-use mathlib.Core.Logic.{◌⊎◌, inl, inr, ⊎_elim}
+use mathlib.Core.Path.{◌≡◌}
+use mathlib.Core.Logic.{◌⊎◌}
 use mathlib.Core.Bool.{Bool, false}
 use mathlib.Core.List.{List}
-use Prim.Native.Nat.{ℕ, ◌-◌, ◌≤◌, ◌<◌, ◌^◌, zero-le}
-use native.Mathlib.Nat.{lt_of_le_of_lt, not-suc-le-zero}
-use native.Mathlib.Numerals.{add-one}
-use native.Mathlib.Omega.{arith}
-use lib.Bits.{and_le_l}
-use lib.Dec.{eqb}
-use lib.ListN.{length, get_or, take, drop, length-set, take-append-drop}
-use lib.Seq.{get_or-set_same, take-suc, take_all, length-take-le}
-use borrow.Author.Tests.{eqb-true, eq-eqb, not-true, not-false}
-use Rattle.basics.proofs.Tests.{by_equal}
+use Prim.Native.Nat.{ℕ, ◌-◌, ◌≤◌, ◌<◌, ◌^◌}
+use lib.ListN.{length, take}
 use Rattle.graph.specs.Graph.{Bounded}
 use Rattle.graph.specs.Taken.{dead}
-use Rattle.graph.proofs.Taken.{taken_is}
-use Rattle.marks.specs.Answers.{Row, graph_of_tables, Summed}
-use Rattle.marks.proofs.Forward.{row_begin, row_on, row_stop, row_dead, row_end}
+use Rattle.marks.specs.Answers.{Row, graph_of_tables}
 use Rattle.marks.proofs.run.Given as goal
 
 -- after k letters

@@ -1,9 +1,7 @@
 -- The loop goes through `from`; a position that it has passed has no free partner. Assumes nothing.
-use Prim.Native.Nat.{ℕ, ◌≤◌}
-use native.Mathlib.Omega.{arith}
-use Rattle.bits.proofs.Walk.{Passed, passed_start, passed_turn, passed_end}
+use Prim.Native.Nat.{ℕ}
+use Rattle.bits.proofs.Walk.{Passed}
 use Rattle.nodes.specs.Nodes.{Free}
-use Rattle.nodes.proofs.Nodes.{partner_in, partner_free, free_none, free_pending}
 use Rattle.nodes.proofs.new_pair.Given as goal
 
 abbrev pub invariant-loop-left : goal.invariant-loop-left

@@ -1,7 +1,6 @@
 -- By the kind of node: a state leads to new states first, then to new pairs, and a pair to pairs. Assumes nothing.
 use mathlib.Core.Logic.{⊎_elim}
 use native.Mathlib.Omega.{arith}
-use borrow.Author.Rules.{rules}
 use Rattle.nodes.proofs.Nodes.{row_positions, cut_positions, node_cases, find_nothing, find_single, find_parting, find_parted}
 use Rattle.nodes.proofs.next_new.Goals as goal
 
@@ -28,7 +27,7 @@ pub returns-then-b-gt60 : goal.returns-then-b-gt60
 returns-then-b-gt60 c = find_nothing (λ n. ⊎_elim (λ k. omega (arith, c.if-x-le60.false)) (λ k. omega (arith, c.if-b-gt60.true)) (node_cases _ n))
 
 pub new_pair-requires-2 : goal.new_pair-requires-2
-new_pair-requires-2 c =  (cut_positions _ c.intersection-from-2.result c.row.ensures c.intersection-from-2.ensures, row_positions c.row-2.ensures)
+new_pair-requires-2 c = (cut_positions _ c.intersection-from-2.result c.row.ensures c.intersection-from-2.ensures, row_positions c.row-2.ensures)
 
 pub returns : goal.returns
 returns c =

@@ -2,7 +2,6 @@
 use mathlib.Core.Path.{sym}
 use native.Mathlib.Omega.{arith}
 use Rattle.nodes.proofs.Nodes.{pack_less, pack_more}
-use borrow.Author.Rules.{rules}
 use Rattle.nodes.proofs.pair.Goals as goal
 
 pub returns-then-a-b : goal.returns-then-a-b

@@ -3,7 +3,6 @@ use mathlib.Core.Path.{ap, ◌∙◌}
 use mathlib.Core.Bool.{Bool, not, ◌&&◌, ◌||◌}
 use lib.Dec.{eqb}
 use Rattle.bits.specs.Bits.{has_bit}
-use borrow.Author.Rules.{rules}
 use Rattle.nodes.proofs.partners.Goals as goal
 
 pub returns : goal.returns

@@ -3,7 +3,6 @@ use Prim.Native.Nat.{◌/◌, ◌%◌}
 use native.Mathlib.Omega.{arith}
 use Rattle.nodes.proofs.Nodes.{Places, node_sides}
 use Rattle.nodes.proofs.TakingUp.{take_state, take_pair}
-use borrow.Author.Rules.{rules}
 use Rattle.nodes.proofs.take_up.Goals as goal
 
 pub returns-then-y-lt64 : goal.returns-then-y-lt64

@@ -1,5 +1,4 @@
 -- Where it goes round, its firsts may follow its lasts by one link more. Assumes nothing.
-use borrow.Author.Rules.{rules}
 use Rattle.parsed.proofs.Standing.{again_stands}
 use Rattle.parsed.proofs.again.Goals as goal
 

@@ -1,7 +1,6 @@
 -- A byte `)` there is what the rules ask for; where the pattern before it was not good, neither is this. Assumes nothing.
 use mathlib.Core.Path.{refl}
 use native.Mathlib.Omega.{arith}
-use borrow.Author.Rules.{rules}
 use Rattle.places.proofs.Places.{next_within}
 use Rattle.parsed.proofs.Standing.{close_not, close_stands}
 use Rattle.parsed.proofs.closed.Goals as goal

@@ -1,6 +1,5 @@
 -- Field by field. Assumes nothing.
 use mathlib.Core.Path.{refl}
-use borrow.Author.Rules.{rules}
 use Rattle.parsed.proofs.join.Goals as goal
 
 pub returns : goal.returns

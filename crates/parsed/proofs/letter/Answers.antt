@@ -1,12 +1,10 @@
 -- The atom's contract, and the position's for its set. Where the tables have an entry for it, both get it. Assumes nothing.
 use mathlib.Core.Path.{◌≡◌, refl, sym, ap, ◌∙◌, subst}
-use mathlib.Core.Logic.{⊎_elim}
 use mathlib.Core.List.{List}
 use Prim.Native.Nat.{ℕ, ◌+◌, ◌≤◌}
 use native.Mathlib.Omega.{arith}
 use lib.Dec.{eqb}
 use lib.ListN.{length, length-set}
-use borrow.Author.Rules.{rules}
 use Rattle.std.proofs.lemmas.Bool.{not-true as not_is_true, not-false as not_is_false}
 use Rattle.set_table.specs.Table.{Writes}
 use Rattle.links.specs.Rows.{Marks}
@@ -44,6 +42,7 @@ returns c =
     letter_stands _ _ _ _ _ _ _ _ _ _ a.result a.ensures good k.ensures (λ h. subst (λ (i : ℕ). Marks c.position-own.result (λ b. eqb b i)) (next h) c.position-own.ensures) c.requires.1.credits_are
     (λ h.
     elim c.if-k-lt61.branch [
-    then-k-lt61 w ↦ subst (λ (i : ℕ). Filled i a.result.set a.result.credit c.args.sets.now c.args.credits.now c.if-k-lt61.sets c.if-k-lt61.credits) (next h)
-    record { letters = subst (λ (l : List ℕ). Writes k.result a.result.set c.args.sets.now l) (sym w.sets-is) w.write.ensures; numbers = w.credits-is }
-    | else-k-lt61 w ↦ absurd (omega (arith, h, next h, w.if-k-lt61.false)) ])
+      | then-k-lt61 w ↦ subst (λ (i : ℕ). Filled i a.result.set a.result.credit c.args.sets.now c.args.credits.now c.if-k-lt61.sets c.if-k-lt61.credits) (next h)
+          record { letters = subst (λ (l : List ℕ). Writes k.result a.result.set c.args.sets.now l) (sym w.sets-is) w.write.ensures; numbers = w.credits-is }
+      | else-k-lt61 w ↦ absurd (omega (arith, h, next h, w.if-k-lt61.false))
+    ])

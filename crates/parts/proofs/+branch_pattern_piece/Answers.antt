@@ -8,7 +8,7 @@ use lib.ListN.{length}
 use borrow.Author.Rules.{rules}
 use Rattle.parsed.specs.Parsed.{memory}
 use Rattle.parts.specs.Parsing.{Parses, atom_from}
-use Rattle.parts.proofs.Parsing.{parses_as, atom_letter, atom_open, piece_repeated, atom_placed, bar_within}
+use Rattle.parts.proofs.Parsing.{parses_as, atom_letter, atom_open, piece_repeated, atom_placed}
 use Rattle.parts.proofs.Folding.{pieces, branches, begins, ends, goes_further}
 use Rattle.parts.proofs.+branch_pattern_piece.Goals as goal
 use Rattle.parts.proofs.+branch_pattern_piece.Goals.{branch-then-byte_at-eq40, branch-else-byte_at-eq40}
@@ -24,17 +24,17 @@ branch-repeat-next-requires t c =
     let join = c.if-byte_at-eq40 in
     let then = memory loop.all loop.more loop.sets loop.credits in
     let atom : Parses atom_from 0 c.args.s.now loop.so_far.at loop.so_far.n then (memory join.all join.more join.sets join.credits) join.atom =
-        elim join.branch [
-          branch-then-byte_at-eq40 w ↦ parses_as atom_from 0 c.args.s.now loop.so_far.at loop.so_far.n then w.all-is w.more-is w.sets-is w.credits-is w.atom-is w.piece-p.ensures
-        | branch-else-byte_at-eq40 w ↦
-            parses_as atom_from 0 c.args.s.now loop.so_far.at loop.so_far.n then w.all-is w.more-is w.sets-is w.credits-is w.atom-is
-            (atom_letter c.args.s.now loop.so_far.at loop.so_far.n then _ _ (λ e. w.if-byte_at-eq40.false (c.byte_at.ensures ∙ e)) (w.letter-atom.ensures loop.all loop.more))
-        ] in
+    elim join.branch [
+      | branch-then-byte_at-eq40 w ↦ parses_as atom_from 0 c.args.s.now loop.so_far.at loop.so_far.n then w.all-is w.more-is w.sets-is w.credits-is w.atom-is w.piece-p.ensures
+      | branch-else-byte_at-eq40 w ↦
+          parses_as atom_from 0 c.args.s.now loop.so_far.at loop.so_far.n then w.all-is w.more-is w.sets-is w.credits-is w.atom-is
+          (atom_letter c.args.s.now loop.so_far.at loop.so_far.n then _ _ (λ e. w.if-byte_at-eq40.false (c.byte_at.ensures ∙ e)) (w.letter-atom.ensures loop.all loop.more))
+    ] in
     let rows : length join.all ≡ 61 =
-        elim join.branch [
-          branch-then-byte_at-eq40 w ↦ let l : length w.piece-p.result.rows ≡ 61 = search rules in ap length w.all-is ∙ l
-        | branch-else-byte_at-eq40 w ↦ ap length w.all-is ∙ loop.invariant.0
-        ] in (
+    elim join.branch [
+      | branch-then-byte_at-eq40 w ↦ let l : length w.piece-p.result.rows ≡ 61 = search rules in ap length w.all-is ∙ l
+      | branch-else-byte_at-eq40 w ↦ ap length w.all-is ∙ loop.invariant.0
+    ] in (
       atom_placed _ _ _ _ _ _ atom loop.invariant.2.few,
       record { sets_are = join.auto.sets ∙ loop.invariant.1.sets_are; credits_are = join.auto.credits ∙ loop.invariant.1.credits_are },
       rows,
@@ -47,12 +47,12 @@ branch-returns-then-not-goes_on t c =
     let join = c.if-byte_at-eq40 in
     let then = memory loop.all loop.more loop.sets loop.credits in
     let atom : Parses atom_from 0 c.args.s.now loop.so_far.at loop.so_far.n then (memory join.all join.more join.sets join.credits) join.atom =
-        elim join.branch [
-          branch-then-byte_at-eq40 w ↦ parses_as atom_from 0 c.args.s.now loop.so_far.at loop.so_far.n then w.all-is w.more-is w.sets-is w.credits-is w.atom-is w.piece-p.ensures
-        | branch-else-byte_at-eq40 w ↦
-            parses_as atom_from 0 c.args.s.now loop.so_far.at loop.so_far.n then w.all-is w.more-is w.sets-is w.credits-is w.atom-is
-            (atom_letter c.args.s.now loop.so_far.at loop.so_far.n then _ _ (λ e. w.if-byte_at-eq40.false (c.byte_at.ensures ∙ e)) (w.letter-atom.ensures loop.all loop.more))
-        ] in
+    elim join.branch [
+      | branch-then-byte_at-eq40 w ↦ parses_as atom_from 0 c.args.s.now loop.so_far.at loop.so_far.n then w.all-is w.more-is w.sets-is w.credits-is w.atom-is w.piece-p.ensures
+      | branch-else-byte_at-eq40 w ↦
+          parses_as atom_from 0 c.args.s.now loop.so_far.at loop.so_far.n then w.all-is w.more-is w.sets-is w.credits-is w.atom-is
+          (atom_letter c.args.s.now loop.so_far.at loop.so_far.n then _ _ (λ e. w.if-byte_at-eq40.false (c.byte_at.ensures ∙ e)) (w.letter-atom.ensures loop.all loop.more))
+    ] in
     ends pieces _ _ _ _ _ _ _ _ _ _ loop.invariant.2 (piece_repeated _ _ _ _ _ _ atom _ _ c.repeat-next.ensures.0) (c.join-so_far.ensures.0, refl) (sym c.goes_on.ensures ∙ c.if-not-goes_on.true)
 
 pub branch-loop-all-smaller : goal.branch-loop-all-smaller
@@ -61,12 +61,12 @@ branch-loop-all-smaller t c =
     let join = c.if-byte_at-eq40 in
     let then = memory loop.all loop.more loop.sets loop.credits in
     let atom : Parses atom_from 0 c.args.s.now loop.so_far.at loop.so_far.n then (memory join.all join.more join.sets join.credits) join.atom =
-        elim join.branch [
-          branch-then-byte_at-eq40 w ↦ parses_as atom_from 0 c.args.s.now loop.so_far.at loop.so_far.n then w.all-is w.more-is w.sets-is w.credits-is w.atom-is w.piece-p.ensures
-        | branch-else-byte_at-eq40 w ↦
-            parses_as atom_from 0 c.args.s.now loop.so_far.at loop.so_far.n then w.all-is w.more-is w.sets-is w.credits-is w.atom-is
-            (atom_letter c.args.s.now loop.so_far.at loop.so_far.n then _ _ (λ e. w.if-byte_at-eq40.false (c.byte_at.ensures ∙ e)) (w.letter-atom.ensures loop.all loop.more))
-        ] in
+    elim join.branch [
+      | branch-then-byte_at-eq40 w ↦ parses_as atom_from 0 c.args.s.now loop.so_far.at loop.so_far.n then w.all-is w.more-is w.sets-is w.credits-is w.atom-is w.piece-p.ensures
+      | branch-else-byte_at-eq40 w ↦
+          parses_as atom_from 0 c.args.s.now loop.so_far.at loop.so_far.n then w.all-is w.more-is w.sets-is w.credits-is w.atom-is
+          (atom_letter c.args.s.now loop.so_far.at loop.so_far.n then _ _ (λ e. w.if-byte_at-eq40.false (c.byte_at.ensures ∙ e)) (w.letter-atom.ensures loop.all loop.more))
+    ] in
     let goes = goes_further pieces _ _ _ _ _ _ _ _ _ _ loop.invariant.2 (piece_repeated _ _ _ _ _ _ atom _ _ c.repeat-next.ensures.0) (c.join-so_far.ensures.0, refl) c.join-so_far.result.at (sym (add-zero c.join-so_far.result.at)) (sym c.goes_on.ensures ∙ c.if-not-goes_on.false) in
     omega (arith, goes.1, goes.2)
 
@@ -76,12 +76,12 @@ branch-loop-all-preserved t c =
     let join = c.if-byte_at-eq40 in
     let then = memory loop.all loop.more loop.sets loop.credits in
     let atom : Parses atom_from 0 c.args.s.now loop.so_far.at loop.so_far.n then (memory join.all join.more join.sets join.credits) join.atom =
-        elim join.branch [
-          branch-then-byte_at-eq40 w ↦ parses_as atom_from 0 c.args.s.now loop.so_far.at loop.so_far.n then w.all-is w.more-is w.sets-is w.credits-is w.atom-is w.piece-p.ensures
-        | branch-else-byte_at-eq40 w ↦
-            parses_as atom_from 0 c.args.s.now loop.so_far.at loop.so_far.n then w.all-is w.more-is w.sets-is w.credits-is w.atom-is
-            (atom_letter c.args.s.now loop.so_far.at loop.so_far.n then _ _ (λ e. w.if-byte_at-eq40.false (c.byte_at.ensures ∙ e)) (w.letter-atom.ensures loop.all loop.more))
-        ] in
+    elim join.branch [
+      | branch-then-byte_at-eq40 w ↦ parses_as atom_from 0 c.args.s.now loop.so_far.at loop.so_far.n then w.all-is w.more-is w.sets-is w.credits-is w.atom-is w.piece-p.ensures
+      | branch-else-byte_at-eq40 w ↦
+          parses_as atom_from 0 c.args.s.now loop.so_far.at loop.so_far.n then w.all-is w.more-is w.sets-is w.credits-is w.atom-is
+          (atom_letter c.args.s.now loop.so_far.at loop.so_far.n then _ _ (λ e. w.if-byte_at-eq40.false (c.byte_at.ensures ∙ e)) (w.letter-atom.ensures loop.all loop.more))
+    ] in
     let goes = goes_further pieces _ _ _ _ _ _ _ _ _ _ loop.invariant.2 (piece_repeated _ _ _ _ _ _ atom _ _ c.repeat-next.ensures.0) (c.join-so_far.ensures.0, refl) c.join-so_far.result.at (sym (add-zero c.join-so_far.result.at)) (sym c.goes_on.ensures ∙ c.if-not-goes_on.false) in
     let kept = c.repeat-next.auto in (
       c.join-so_far.ensures.1,

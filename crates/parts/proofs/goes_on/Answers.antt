@@ -3,7 +3,6 @@ use mathlib.Core.Path.{ap₂}
 use mathlib.Core.Bool.{Bool, not, ◌&&◌, ◌||◌}
 use Prim.Native.Nat.{ℕ}
 use lib.Dec.{eqb}
-use borrow.Author.Rules.{rules}
 use Rattle.places.proofs.Places.{none_left}
 use Rattle.parts.proofs.goes_on.Goals as goal
 

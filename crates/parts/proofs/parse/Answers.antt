@@ -2,7 +2,6 @@
 use Prim.Native.Nat.{suc, ◌*◌}
 use native.Mathlib.Omega.{arith}
 use lib.ListN.{length}
-use borrow.Author.Rules.{rules}
 use Rattle.parts.proofs.Parsing.{has_whole}
 use Rattle.parts.proofs.parse.Goals as goal
 

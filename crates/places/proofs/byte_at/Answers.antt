@@ -1,7 +1,6 @@
 -- The first byte from a place on is the one at the place. Assumes nothing.
 use mathlib.Core.Path.{sym}
 use Rattle.places.proofs.Places.{peek_drop, peek_past}
-use borrow.Author.Rules.{rules}
 use Rattle.places.proofs.byte_at.Goals as goal
 
 pub returns-then-at-s : goal.returns-then-at-s

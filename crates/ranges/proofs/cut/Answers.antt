@@ -1,7 +1,6 @@
 -- In each case j is below the result exactly where base + j is below the slot, for the j of the 64 slots. Assumes nothing.
 use Prim.Native.Nat.{◌+◌, ◌-◌}
 use native.Mathlib.Omega.{arith}
-use borrow.Author.Rules.{rules}
 use Rattle.basics.proofs.Tests.{same_less}
 use Rattle.ranges.proofs.cut.Goals as goal
 

@@ -3,7 +3,6 @@ use mathlib.Core.Path.{◌≡◌}
 use Prim.Native.Nat.{◌-◌}
 use native.Mathlib.Omega.{arith}
 use lib.Dec.{ltb}
-use borrow.Author.Rules.{rules}
 use Rattle.basics.proofs.Tests.{same_less}
 use Rattle.letters.specs.LetterSet.{code_at}
 use Rattle.letters.proofs.Slots.{by_slot}

@@ -5,7 +5,6 @@ use Prim.Native.Nat.{◌+◌}
 use mathlib.Core.Logic.{⊎_elim}
 use native.Mathlib.Omega.{arith}
 use lib.Dec.{ltb, leb}
-use borrow.Author.Rules.{rules}
 use borrow.Author.Tests.{lt-ltb, le-ltb}
 use Rattle.basics.proofs.Tests.{le_or_lt, not_less}
 use Rattle.ranges.proofs.word.Goals as goal

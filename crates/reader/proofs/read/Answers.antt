@@ -7,7 +7,6 @@ use Prim.Native.Nat.{ℕ, ◌≤◌}
 use native.Mathlib.Omega.{arith}
 use lib.Dec.{eqb}
 use lib.ListN.{length}
-use borrow.Author.Rules.{rules}
 use borrow.Author.Tests.{lt-ltb, le-ltb}
 use Rattle.basics.proofs.Tests.{and_parts}
 use Rattle.pattern.specs.Grammar.{read_pattern, is_pattern, pattern_part}
@@ -135,4 +134,3 @@ returns c =
     let made = c.accepted.ensures.1 in
     accepts s _ _ passes c.accepted.ensures.0 (made.graph (pattern_part s) _ w l (links_few s (no_refusal s passes))) (stored_bounded (pattern_part s) _ _ w.stored l)
     (λ d. single_shown c.accepted.result.built c.parse-p.new.more (w.none (sym made.doubled ∙ d)))
-

@@ -1,6 +1,5 @@
 -- A pattern with nothing in it shows the graph with nothing in it. Assumes nothing.
 use mathlib.Core.Path.{refl}
-use borrow.Author.Rules.{rules}
 use Rattle.reader.proofs.Building.{none_shown}
 use Rattle.reader.proofs.refused.Goals as goal
 

@@ -2,7 +2,6 @@
 use mathlib.Core.Path.{◌≡◌, sym, ◌∙◌}
 use Prim.Native.Nat.{max}
 use native.Mathlib.Omega.{arith}
-use borrow.Author.Tests.{not-true, not-false}
 use Rattle.basics.proofs.Tests.{if_yes, if_no}
 use Rattle.std.proofs.lemmas.Bool.{not-false as not_is_false, not-true as not_is_true}
 use Rattle.repeats.proofs.how_many.Goals as goal

@@ -4,8 +4,6 @@ use mathlib.Core.Bool.{false}
 use Prim.Native.Nat.{ℕ, ◌+◌, ◌-◌, ◌*◌, ◌≤◌, ◌<◌}
 use native.Mathlib.Nat.{mul-le-mul}
 use native.Mathlib.Omega.{arith}
-use borrow.Author.Rules.{rules}
-use borrow.Author.Tests.{not-true, not-false}
 use Rattle.pattern.specs.Parts.{out_of_bounds}
 use Rattle.bounds.specs.Bounds.{bounds_of}
 use Rattle.repeats.proofs.Intervals.{many, room, no_room, has_misbounded, has_many, has_few, written_not, written_stands}

@@ -4,8 +4,6 @@ use Prim.Native.Nat.{ℕ}
 use Prim.Native.Char.{code}
 use native.Mathlib.Omega.{arith}
 use lib.Dec.{eqb}
-use borrow.Author.Rules.{rules}
-use borrow.Author.Tests.{not-true, not-false}
 use Rattle.places.proofs.Places.{next_within}
 use Rattle.repeats.proofs.Repeating.{repeat_byte, repeat_bad, repeat_any, repeat_not, repeat_times}
 use Rattle.std.proofs.lemmas.Bool.{not-false as not_is_false}
@@ -21,7 +19,7 @@ pub overflow_add-p : goal.overflow_add-p
 overflow_add-p c = let inside = next_within c.args.s.now c.args.p.at (omega (arith, c.byte_at-b.ensures, c.if-b-eq123.true)) in omega arith
 
 pub interval-requires : goal.interval-requires
-interval-requires c =  (c.requires.0 (not_is_false c.args.p.good c.if-not-p.false), c.requires.1, c.requires.2, c.requires.3)
+interval-requires c = (c.requires.0 (not_is_false c.args.p.good c.if-not-p.false), c.requires.1, c.requires.2, c.requires.3)
 
 pub returns-then-b-eq123 : goal.returns-then-b-eq123
 returns-then-b-eq123 c =

@@ -1,6 +1,5 @@
 -- The first node is all that is taken up. Assumes nothing.
 use Rattle.search.proofs.Visiting.{search_begin}
-use borrow.Author.Rules.{rules}
 use Rattle.search.proofs.begin.Goals as goal
 
 pub returns : goal.returns

@@ -2,11 +2,10 @@
 -- Assumes nothing.
 use mathlib.Core.Path.{refl, sym, ◌∙◌}
 use mathlib.Core.Bool.{true≢false}
-use Prim.Native.Nat.{◌+◌, ◌-◌, ◌*◌}
 use native.Mathlib.Nat.{le_refl}
 use native.Mathlib.Omega.{arith}
 use Rattle.search.proofs.Visiting.{search_next, visit_less}
-use Rattle.search.proofs.Pivoting.{start_no_goal, none_yet, none_more, pivot_first, none_first, Looking, Passing}
+use Rattle.search.proofs.Pivoting.{start_no_goal, none_yet, none_more, pivot_first, none_first}
 use Rattle.search.proofs.first_pivot.Goals as goal
 
 pub pivots-init : goal.pivots-init
@@ -45,7 +44,7 @@ loop-w-preserved c =
     record { size = v.auto.scratch ∙ l.invariant.size; still = l.invariant.still; searching = search_next l.invariant.searching l.invariant.none (v.ensures.right l.invariant.searching.sound); none = c.if-w.false }
 
 pub overflow_add-q : goal.overflow_add-q
-overflow_add-q c =  omega (arith, c.requires.1, c.pivots-test.true)
+overflow_add-q c = omega (arith, c.requires.1, c.pivots-test.true)
 
 pub pivots-smaller : goal.pivots-smaller
 pivots-smaller c = omega (arith, c.pivots-test.true)

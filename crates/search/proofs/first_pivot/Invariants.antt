@@ -1,12 +1,7 @@
 -- The outer loop has passed positions that are no pivots; the inner one is a search from q for both paths back at q.
 -- Assumes nothing.
-use mathlib.Core.Path.{refl, sym, ◌∙◌}
-use mathlib.Core.Bool.{true≢false}
 use Prim.Native.Nat.{◌+◌, ◌-◌, ◌*◌}
-use native.Mathlib.Nat.{le_refl}
-use native.Mathlib.Omega.{arith}
-use Rattle.search.proofs.Visiting.{search_next, visit_less}
-use Rattle.search.proofs.Pivoting.{start_no_goal, none_yet, none_more, pivot_first, none_first, Looking, Passing}
+use Rattle.search.proofs.Pivoting.{Looking, Passing}
 use Rattle.search.proofs.first_pivot.Given as goal
 
 abbrev pub invariant-loop-w : goal.invariant-loop-w

@@ -7,7 +7,6 @@ use lib.Dec.{ltb}
 use Rattle.basics.proofs.Tests.{if_yes, if_no}
 use Rattle.bits.specs.Bits.{has_bit}
 use Rattle.search.specs.Search.{is_goal}
-use borrow.Author.Rules.{rules}
 use Rattle.search.proofs.is_goal.Goals as goal
 
 pub returns-then-x-lt64 : goal.returns-then-x-lt64

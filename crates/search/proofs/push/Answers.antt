@@ -3,7 +3,6 @@ use mathlib.Core.Path.{refl}
 use native.Mathlib.Omega.{arith}
 use lib.ListN.{length-set}
 use Rattle.search.specs.Search.{enqueue}
-use borrow.Author.Rules.{rules}
 use Rattle.search.proofs.push.Goals as goal
 
 pub bounds-scratch-tail-2 : goal.bounds-scratch-tail-2

@@ -1,11 +1,7 @@
 -- A search under way stays one with each visit, and what is left of the queue falls. Assumes nothing.
-use mathlib.Core.Path.{◌≡◌, refl, sym, ◌∙◌}
+use mathlib.Core.Path.{refl, sym, ◌∙◌}
 use mathlib.Core.Bool.{true≢false}
-use Prim.Native.Nat.{◌+◌, ◌-◌, ◌*◌}
 use native.Mathlib.Omega.{arith}
-use borrow.Author.Tests.{not-true, not-false}
-use lib.ListN.{length}
-use Rattle.search.specs.Search.{Searching}
 use Rattle.search.proofs.Visiting.{search_next, visit_less}
 use Rattle.std.proofs.lemmas.Bool.{not-true as not_is_true, not-false as not_is_false}
 use Rattle.search.proofs.to_goal.Goals as goal
@@ -14,7 +10,7 @@ pub begin-w-requires : goal.begin-w-requires
 begin-w-requires c = (c.requires.0, omega (arith, c.requires.1))
 
 pub loop-w-init : goal.loop-w-init
-loop-w-init c =  (refl, c.begin-w.ensures.0 c.args.follow.now c.args.doubles.now c.args.shares.now)
+loop-w-init c = (refl, c.begin-w.ensures.0 c.args.follow.now c.args.doubles.now c.args.shares.now)
 
 pub visit-w-requires : goal.visit-w-requires
 visit-w-requires c = c.loop-w.invariant.1.sound.queue.long

@@ -1,12 +1,8 @@
 -- A search under way stays one with each visit, and what is left of the queue falls. Assumes nothing.
-use mathlib.Core.Path.{◌≡◌, refl, sym, ◌∙◌}
-use mathlib.Core.Bool.{true≢false}
+use mathlib.Core.Path.{◌≡◌}
 use Prim.Native.Nat.{◌+◌, ◌-◌, ◌*◌}
-use native.Mathlib.Omega.{arith}
-use borrow.Author.Tests.{not-true, not-false}
 use lib.ListN.{length}
 use Rattle.search.specs.Search.{Searching}
-use Rattle.search.proofs.Visiting.{search_next, visit_less}
 use Rattle.search.proofs.to_goal.Given as goal
 
 abbrev pub invariant-loop-w : goal.invariant-loop-w

@@ -1,13 +1,13 @@
 -- The loop only passes heads that have no new node one step on; what it finds is taken up by one store of the node and one of the
 -- node before it. What is said of a sound search stands behind an implication, in the invariant too. Assumes nothing.
-use mathlib.Core.Path.{◌≡◌, refl, ap, ◌∙◌}
+use mathlib.Core.Path.{refl, ap, ◌∙◌}
 use mathlib.Core.Logic.{inl, inr}
 use mathlib.Core.List.{List}
-use Prim.Native.Nat.{ℕ, ◌-◌, ◌≤◌, ◌<◌}
+use Prim.Native.Nat.{ℕ, ◌≤◌, ◌<◌}
 use native.Mathlib.Nat.{le_refl}
 use native.Mathlib.Omega.{arith}
 use lib.ListN.{length}
-use Rattle.search.specs.Search.{queue, SoundSearch}
+use Rattle.search.specs.Search.{queue}
 use Rattle.nodes.proofs.Nodes.{fresh_node}
 use Rattle.search.proofs.Visiting.{few_taken, passed_on, took}
 use Rattle.search.proofs.visit.Goals as goal

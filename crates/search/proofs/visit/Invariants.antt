@@ -1,15 +1,8 @@
 -- The loop only passes heads that have no new node one step on; what it finds is taken up by one store of the node and one of the
 -- node before it. What is said of a sound search stands behind an implication, in the invariant too. Assumes nothing.
-use mathlib.Core.Path.{◌≡◌, refl, ap, ◌∙◌}
-use mathlib.Core.Logic.{inl, inr}
-use mathlib.Core.List.{List}
-use Prim.Native.Nat.{ℕ, ◌-◌, ◌≤◌, ◌<◌}
-use native.Mathlib.Nat.{le_refl}
-use native.Mathlib.Omega.{arith}
-use lib.ListN.{length}
-use Rattle.search.specs.Search.{queue, SoundSearch}
-use Rattle.nodes.proofs.Nodes.{fresh_node}
-use Rattle.search.proofs.Visiting.{few_taken, passed_on, took}
+use mathlib.Core.Path.{◌≡◌}
+use Prim.Native.Nat.{◌-◌}
+use Rattle.search.specs.Search.{SoundSearch}
 use Rattle.search.proofs.visit.Given as goal
 
 abbrev pub invariant-loop-head : goal.invariant-loop-head

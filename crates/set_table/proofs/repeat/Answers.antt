@@ -1,5 +1,4 @@
 -- Three words an entry, so that three times as far in words is as far in entries. Assumes nothing.
-use borrow.Author.Rules.{rules}
 use Rattle.set_table.proofs.Tables.{repeats}
 use Rattle.set_table.proofs.repeat.Goals as goal
 

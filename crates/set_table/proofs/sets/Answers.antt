@@ -1,14 +1,12 @@
 -- The loop's invariant: the sets of the entries below i are copied. The measure is how many are left. Assumes nothing.
-use mathlib.Core.Path.{◌≡◌, refl, ap, ◌∙◌}
+use mathlib.Core.Path.{refl, ap, ◌∙◌}
 use mathlib.Core.Bool.{Bool, ◌&&◌}
-use Prim.Native.Nat.{◌+◌, ◌-◌, ◌≤◌}
 use native.Mathlib.Omega.{arith}
-use lib.ListN.{length, length-set}
-use borrow.Author.Rules.{rules}
+use lib.ListN.{length-set}
 use Rattle.basics.proofs.Tests.{below_next}
 use Rattle.letters.specs.LetterSet.{has_letter}
 use Rattle.set_table.specs.Table.{set_in}
-use Rattle.set_table.proofs.Tables.{Copied, copy_none, copy_one}
+use Rattle.set_table.proofs.Tables.{copy_none, copy_one}
 use Rattle.set_table.proofs.sets.Goals as goal
 
 pub loop-i-init : goal.loop-i-init

@@ -1,9 +1,7 @@
 -- Of the members that are not left, those with a number above 0 are kept. Assumes nothing.
-use Prim.Native.Nat.{◌+◌, ◌*◌, ◌≤◌}
+use Prim.Native.Nat.{◌≤◌}
 use native.Mathlib.Omega.{arith}
-use lib.Dec.{ltb}
-use lib.ListN.{get_or}
-use Rattle.shares.proofs.Doubling.{Keeping, keep_start, keep_turn, keep_end}
+use Rattle.shares.proofs.Doubling.{keep_start, keep_turn, keep_end}
 use Rattle.shares.proofs.double_row.Goals as goal
 
 pub loop-left-init : goal.loop-left-init

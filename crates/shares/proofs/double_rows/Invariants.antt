@@ -1,16 +1,9 @@
 -- The rows passed are filled. Assumes nothing.
-use mathlib.Core.Path.{◌≡◌, refl, sym, ap, ◌∙◌}
-use mathlib.Core.Bool.{Bool, ◌&&◌}
-use Prim.Native.Nat.{ℕ, ◌+◌, ◌-◌, ◌*◌, ◌≤◌, ◌<◌}
-use native.Mathlib.Omega.{arith}
-use borrow.Author.Tests.{not-true}
-use lib.ListN.{get_or, length, length-set}
-use Rattle.basics.proofs.Lists.{zeros}
+use mathlib.Core.Path.{◌≡◌}
+use Prim.Native.Nat.{ℕ, ◌+◌, ◌-◌, ◌≤◌, ◌<◌}
+use lib.ListN.{get_or, length}
 use Rattle.bits.specs.Bits.{has_bit}
-use Rattle.bits.proofs.Laws.{has_none}
 use Rattle.shares.specs.Tables.{is_doubled}
-use Rattle.shares.proofs.Filling.{row_filled}
-use Rattle.shares.proofs.Doubling.{some_above}
 use Rattle.shares.proofs.double_rows.Given as goal
 
 abbrev pub invariant-loop-u : goal.invariant-loop-u

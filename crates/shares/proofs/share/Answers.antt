@@ -1,6 +1,5 @@
 -- The set of both is empty just where they share no letter. Assumes nothing.
 use Rattle.letters.proofs.Shared.{none_shared}
-use borrow.Author.Rules.{rules}
 use Rattle.shares.proofs.share.Goals as goal
 
 pub returns : goal.returns

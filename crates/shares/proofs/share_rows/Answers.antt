@@ -2,18 +2,16 @@
 use mathlib.Core.Path.{◌≡◌, sym, ap, ap₂, ◌∙◌}
 use mathlib.Core.Bool.{Bool, ◌&&◌, ◌||◌}
 use mathlib.Core.List.{List}
-use Prim.Native.Nat.{ℕ, ◌+◌, ◌-◌, ◌^◌, ◌≤◌, ◌<◌, zero-le}
+use Prim.Native.Nat.{ℕ, ◌+◌, zero-le}
 use native.Mathlib.Omega.{arith}
 use borrow.Author.Tests.{lt-ltb, le-ltb}
 use lib.Dec.{eqb, ltb}
-use lib.ListN.{get_or, length, length-set}
+use lib.ListN.{length-set}
 use Rattle.basics.proofs.Tests.{both_swap, one_further}
-use Rattle.bits.specs.Bits.{has_bit}
 use Rattle.bits.proofs.Laws.{has_none, lt_of_high}
 use Rattle.alphabet.specs.Alphabet.{some_letter}
 use Rattle.letters.specs.LetterSet.{has_letter, set_at}
 use Rattle.letters.specs.declared.LetterSet.{LetterSet}
-use Rattle.shares.specs.Tables.{held}
 use Rattle.shares.proofs.Filling.{rows_grown}
 use Rattle.shares.proofs.share_rows.Invariants.{shared}
 use Rattle.shares.proofs.share_rows.Goals as goal

@@ -1,20 +1,14 @@
 -- The rows passed have the numbers passed that share a letter with theirs, and so has the word of the row at hand. Assumes nothing.
-use mathlib.Core.Path.{◌≡◌, sym, ap, ap₂, ◌∙◌}
-use mathlib.Core.Bool.{Bool, ◌&&◌, ◌||◌}
+use mathlib.Core.Path.{◌≡◌}
+use mathlib.Core.Bool.{Bool, ◌&&◌}
 use mathlib.Core.List.{List}
-use Prim.Native.Nat.{ℕ, ◌+◌, ◌-◌, ◌^◌, ◌≤◌, ◌<◌, zero-le}
-use native.Mathlib.Omega.{arith}
-use borrow.Author.Tests.{lt-ltb, le-ltb}
-use lib.Dec.{eqb, ltb}
-use lib.ListN.{get_or, length, length-set}
-use Rattle.basics.proofs.Tests.{both_swap, one_further}
+use Prim.Native.Nat.{ℕ, ◌+◌, ◌-◌, ◌^◌, ◌≤◌, ◌<◌}
+use lib.Dec.{ltb}
+use lib.ListN.{get_or, length}
 use Rattle.bits.specs.Bits.{has_bit}
-use Rattle.bits.proofs.Laws.{has_none, lt_of_high}
 use Rattle.alphabet.specs.Alphabet.{some_letter}
-use Rattle.letters.specs.LetterSet.{has_letter, set_at}
 use Rattle.letters.specs.declared.LetterSet.{LetterSet}
 use Rattle.shares.specs.Tables.{held}
-use Rattle.shares.proofs.Filling.{rows_grown}
 use Rattle.shares.proofs.share_rows.Given as goal
 
 -- do two sets share a letter, in either order

@@ -1,6 +1,5 @@
 -- The set of both holds just what the two share, so its first letter is theirs. Assumes nothing.
 use mathlib.Core.Path.{sym, ap, ◌∙◌}
-use borrow.Author.Rules.{rules}
 use Rattle.basics.proofs.Tests.{and_parts}
 use Rattle.letters.specs.LetterSet.{has_letter}
 use Rattle.letters.specs.Order.{first_letter}

@@ -2,11 +2,10 @@
 use mathlib.Core.Path.{refl}
 use native.Mathlib.Nat.{le_refl}
 use native.Mathlib.Omega.{arith}
-use borrow.Author.Tests.{not-true, not-false}
+use borrow.Author.Tests.{not-false}
 use Rattle.texts.specs.Texts.{Showable}
 use Rattle.search.proofs.Found.{none_found}
 use Rattle.texts.proofs.Tracing.{found_leads_back, found_few, found_steps, shown_text}
-use borrow.Author.Rules.{rules}
 use Rattle.std.proofs.lemmas.Bool.{not-true as not_is_true}
 use Rattle.texts.proofs.show.Goals as goal
 

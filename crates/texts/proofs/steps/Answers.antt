@@ -2,7 +2,7 @@
 use Prim.Native.Nat.{◌+◌, ◌≤◌, ◌<◌}
 use native.Mathlib.Omega.{arith}
 use Rattle.search.specs.Search.{back_of}
-use Rattle.texts.proofs.Tracing.{Counted, count_start, count_next, count_end}
+use Rattle.texts.proofs.Tracing.{count_start, count_next, count_end}
 use Rattle.texts.proofs.steps.Goals as goal
 
 pub loop-j-init : goal.loop-j-init

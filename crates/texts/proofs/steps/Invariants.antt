@@ -1,8 +1,5 @@
 -- Each turn is one step back, and what is behind the node that it comes to is behind the whole. Assumes nothing.
-use Prim.Native.Nat.{◌+◌, ◌≤◌, ◌<◌}
-use native.Mathlib.Omega.{arith}
-use Rattle.search.specs.Search.{back_of}
-use Rattle.texts.proofs.Tracing.{Counted, count_start, count_next, count_end}
+use Rattle.texts.proofs.Tracing.{Counted}
 use Rattle.texts.proofs.steps.Given as goal
 
 abbrev pub invariant-loop-j : goal.invariant-loop-j

@@ -3,13 +3,12 @@ use mathlib.Core.Path.{ap₂, ◌∙◌}
 use Prim.Native.Nat.{ℕ, ◌+◌, ◌≤◌, ◌<◌}
 use native.Mathlib.Omega.{arith}
 use lib.ListN.{length, get_or}
-use borrow.Author.Rules.{rules}
 use Rattle.alphabet.specs.Alphabet.{some_letter}
 use Rattle.letters.specs.Order.{first_letter}
 use Rattle.shares.specs.Tables.{held}
 use Rattle.search.specs.Search.{back_of}
 use Rattle.texts.specs.Texts.{letter_at, Showable}
-use Rattle.texts.proofs.Tracing.{Writing, write_start, write_room, write_next, write_end}
+use Rattle.texts.proofs.Tracing.{write_start, write_room, write_next, write_end}
 use Rattle.texts.proofs.trace.Goals as goal
 
 pub loop-at-init : goal.loop-at-init
@@ -50,9 +49,9 @@ bounds-sets-b c =
 pub letter-requires : goal.letter-requires
 letter-requires c =
     let node : Showable c.args.sets (get_or c.args.scratch.now c.loop-at.at 0) = c.requires.3 c.loop-at.at c.loop-at-test.true c.loop-at.invariant.low in (
-  c.requires.0 c.left-a.result,
-  ap₂ (λ (i j : ℕ). some_letter (held c.args.sets i j)) c.left-a.ensures c.right-b.ensures ∙ (node).some,
-)
+      c.requires.0 c.left-a.result,
+      ap₂ (λ (i j : ℕ). some_letter (held c.args.sets i j)) c.left-a.ensures c.right-b.ensures ∙ (node).some,
+    )
 
 pub bounds-evidence-k : goal.bounds-evidence-k
 bounds-evidence-k c =

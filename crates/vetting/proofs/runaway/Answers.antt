@@ -2,7 +2,6 @@
 -- to an end. Assumes nothing.
 use Prim.Native.Nat.{◌≤◌}
 use native.Mathlib.Omega.{arith}
-use borrow.Author.Rules.{rules}
 use Rattle.vetting.proofs.Answering.{judges, honest, honest_none, showable, Pivot, first_low, way_in_shown, way_in_short, way_out_shown, loops_shown, runaway_answer}
 use Rattle.vetting.proofs.runaway.Goals as goal
 

@@ -2,7 +2,6 @@
 use Prim.Native.Nat.{zero-le}
 use native.Mathlib.Omega.{arith}
 use Rattle.vetting.proofs.Answering.{judges, honest, showable, single_answer, steady_answer}
-use borrow.Author.Rules.{rules}
 use Rattle.vetting.proofs.single_or_steady.Goals as goal
 
 pub show-n-requires : goal.show-n-requires

@@ -5,7 +5,6 @@ use Rattle.graph.specs.Built.{graph_of_built}
 use Rattle.verdict.specs.Verdict.{first_pivot}
 use Rattle.shares.specs.Tables.{Doubles, Shares}
 use Rattle.vetting.proofs.Answering.{within, none_doubled, rows_of, doubles_of, shares_of}
-use borrow.Author.Rules.{rules}
 use Rattle.vetting.proofs.vet.Goals as goal
 
 pub double_rows-doubles-requires : goal.double_rows-doubles-requires
