@@ -30,7 +30,7 @@ loop-left-init c = (
   lt_of_high 61 c.intersection-left.result c.intersection-left.type_inv (few c.below-all.result c.args.lasts c.intersection-left.result c.below-all.ensures c.intersection-left.ensures),
   λ a b. refl,
   refl,
-  λ a b k. omega (arith, c.slice_known-1.given (entry a b)),
+  λ a b k. omega (arith, c.type_inv.more (entry a b)),
   λ a b k. refl,
   λ e. refl,
 )

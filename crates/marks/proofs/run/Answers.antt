@@ -15,8 +15,8 @@ use Rattle.graph.specs.Taken.{dead}
 use Rattle.graph.proofs.Taken.{taken_is}
 use Rattle.marks.specs.Answers.{Row, graph_of_tables, Summed}
 use Rattle.marks.proofs.Forward.{row_begin, row_on, row_stop, row_dead, row_end}
+use borrow.Author.Rules.{rules}
 use Rattle.marks.proofs.run.Goals as goal
-use Rattle.marks.proofs.run.Goals.{then-loop-k-test+else-active-ne0, else-loop-k-test}
 
 pub loop-k-init : goal.loop-k-init
 loop-k-init c =
@@ -37,13 +37,13 @@ pub overflow_sub-to : goal.overflow_sub-to
 overflow_sub-to c = ⊎_elim (λ e. omega arith) (λ e. omega arith) c.loop-k.invariant.turn
 
 pub overflow_cast-holds : goal.overflow_cast-holds
-overflow_cast-holds c = omega (arith, c.shared_slice_known-in-loop-k-1.given c.loop-k.k)
+overflow_cast-holds c = omega (arith, c.type_inv.answer c.loop-k.k)
 
 pub offset_bounds-holders-answer : goal.offset_bounds-holders-answer
-offset_bounds-holders-answer c = omega (arith, c.shared_slice_known-in-loop-k-1.given c.loop-k.k)
+offset_bounds-holders-answer c = omega (arith, c.type_inv.answer c.loop-k.k)
 
 pub bounds-holders-answer : goal.bounds-holders-answer
-bounds-holders-answer c = omega (arith, c.shared_slice_known-in-loop-k-1.given c.loop-k.k)
+bounds-holders-answer c = omega (arith, c.type_inv.answer c.loop-k.k)
 
 pub step-active-requires : goal.step-active-requires
 step-active-requires c =
@@ -112,7 +112,7 @@ returns c p bounded =
     let row = at.invariant.row p bounded in
     let came = c.loop-k-test.branch in
     -- no state is possible, or no letter is left
-    let stopped : (at.active ≡ 0) ⊎ (length s ≤ at.k) = elim came [ then-loop-k-test+else-active-ne0 w ↦ inl w.if-active-ne0.false | else-loop-k-test w ↦ inr w.loop-k-test.false ] in
+    let stopped : (at.active ≡ 0) ⊎ (length s ≤ at.k) = search rules in
     let whole : Row g s at.from at.active at.counts at.best =
     ⊎_elim
     (λ z. subst (λ (x : List ℕ). Row g x at.from at.active at.counts at.best) (take-append-drop at.k s) (row_stop g (take at.k s) (drop at.k s) at.from at.active at.counts at.best z row))

@@ -27,7 +27,7 @@ bounds-scratch-head c =
     let bound : (c.args.w.tail < 2048) × (4096 ≤ length c.loop-head.scratch) = (c.if-tail-ge-BACK.false, omega (arith, c.requires, ap length c.loop-head.invariant.0)) in omega (arith, bound)
 
 pub overflow_cast-x : goal.overflow_cast-x
-overflow_cast-x c = omega (arith, c.slice_known-in-loop-head-1.given c.loop-head.head)
+overflow_cast-x c = omega (arith, c.type_inv.scratch c.loop-head.head)
 
 pub push-requires : goal.push-requires
 push-requires c =

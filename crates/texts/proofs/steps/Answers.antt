@@ -25,7 +25,7 @@ bounds-scratch-j c =
     let low : (c.loop-j.j < 2048) × (c.loop-j.n ≤ 2048) = omega (arith, c.loop-j.invariant.low, c.requires.few) in omega (arith, low, c.requires.long)
 
 pub overflow_cast-j : goal.overflow_cast-j
-overflow_cast-j c = omega (arith, c.shared_slice_known-1.given (2048 + c.loop-j.j))
+overflow_cast-j c = omega (arith, c.type_inv.scratch (2048 + c.loop-j.j))
 
 pub loop-j-smaller : goal.loop-j-smaller
 loop-j-smaller c =

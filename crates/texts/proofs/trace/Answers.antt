@@ -28,7 +28,7 @@ bounds-scratch-at c =
     let low : c.loop-at.at < 2048 = omega (arith, c.loop-at.invariant.low, c.requires.1.few) in omega (arith, low, c.requires.1.long)
 
 pub overflow_cast-x : goal.overflow_cast-x
-overflow_cast-x c = omega (arith, c.shared_slice_known-in-loop-at-1.given c.loop-at.at)
+overflow_cast-x c = omega (arith, c.type_inv.scratch c.loop-at.at)
 
 pub offset_bounds-sets-a : goal.offset_bounds-sets-a
 offset_bounds-sets-a c =
@@ -70,7 +70,7 @@ bounds-scratch-at-in-loop-at c =
     let low : c.loop-at.at < 2048 = omega (arith, c.loop-at.invariant.low, c.requires.1.few) in omega (arith, low, c.requires.1.long)
 
 pub overflow_cast-at : goal.overflow_cast-at
-overflow_cast-at c = omega (arith, c.shared_slice_known-in-loop-at-2-1.given (2048 + c.loop-at.at))
+overflow_cast-at c = omega (arith, c.type_inv.scratch (2048 + c.loop-at.at))
 
 pub loop-at-smaller : goal.loop-at-smaller
 loop-at-smaller c =
