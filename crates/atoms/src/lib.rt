@@ -12,6 +12,9 @@ ghost use Rattle.atoms.specs.Atoms.{credit_to, ReadsCredit, ReadsAtom};
 use classes::Named;
 use letters::LetterSet;
 
+// The sign of points taken off.
+const MINUS: u8 = b'-';
+
 // A lettered atom that was read: where it ends, its letters, whether it has none, whether a range of it is reversed, and its
 // credit, raised by 9, so that it has no sign. Where `good` is false there is none, and the rest means nothing.
 #[derive(Clone, Copy)]
@@ -139,7 +142,7 @@ fn credit(s: &[u8], at: usize) -> CreditRead
     if credit_digit(d) {
         return credit_to(at + 2, 9 + (d - b'0'));
     }
-    if d != b'-' {
+    if d != MINUS {
         return no_credit();
     }
     let e = places::byte_at(s, at + 2);

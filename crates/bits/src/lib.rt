@@ -6,6 +6,9 @@ ghost use Rattle.std.specs.Prelude.{◌≡◌, not, ◌&&◌, ◌||◌, ℕ, ◌
 ghost use Rattle.basics.specs.Folds.{Less};
 ghost use Rattle.bits.specs.Bits.{has_bit, Least};
 
+// How many numbers a set can have.
+const WIDTH: usize = 64;
+
 // Is i a member.
 pub fn has(mask: u64, i: usize) -> bool
     requires { i < 64 }
@@ -67,7 +70,7 @@ pub fn below(n: usize) -> u64
     requires { n ≤ 64 }
     ensures { (j : ℕ) → has_bit result j ≡ ltb j n }
 {
-    if n == 64 {
+    if n == WIDTH {
         return 0xffff_ffff_ffff_ffff;
     }
     (1 << n) - 1

@@ -6,6 +6,9 @@ ghost use Rattle.pattern.specs.Parts.{out_of_bounds};
 ghost use Rattle.pattern.specs.Grammar.{is_digit, read_interval};
 ghost use Rattle.bounds.specs.Bounds.{bounds_of, up_to, ReadsMore, ReadsBound, ReadsInterval};
 
+// What ends an interval.
+const CLOSE: u8 = b'}';
+
 // An interval that was read: where it ends, its lower bound, and its upper bound where it is not endless. Where `good` is false
 // there is none, and the rest means nothing.
 #[derive(Clone, Copy)]
@@ -26,7 +29,7 @@ pub fn interval(s: &[u8], at: usize) -> IntervalRead
     }
     let m = bound(s, at);
     let b = places::byte_at(s, m.at);
-    if b == b'}' {
+    if b == CLOSE {
         return up_to(m.at + 1, m.value, m.value, false);
     }
     if b != b',' {
@@ -34,14 +37,14 @@ pub fn interval(s: &[u8], at: usize) -> IntervalRead
     }
     let t = m.at + 1;
     let c = places::byte_at(s, t);
-    if c == b'}' {
+    if c == CLOSE {
         return up_to(t + 1, m.value, 0, true);
     }
     if !is_digit(c) {
         return none();
     }
     let n = bound(s, t);
-    if places::byte_at(s, n.at) != b'}' {
+    if places::byte_at(s, n.at) != CLOSE {
         return none();
     }
     up_to(n.at + 1, m.value, n.value, false)

@@ -9,15 +9,20 @@ ghost use Rattle.calls.specs.Vetting.{VetSays, refused};
 use marks::Marked;
 use vetting::Vetted;
 
+// What vetting is lent at least: bytes of evidence, numbers of scratch.
+const LEAST_EVIDENCE: usize = 4096;
+
+const LEAST_SCRATCH: usize = 8192;
+
 // Vets a pattern. The evidence gets the texts that show the verdict, and beyond them keeps its old bytes; scratch may hold
 // anything before, and does after.
 pub fn vet_pattern(pattern: &[u8], evidence: &mut [u8], scratch: &mut [u16]) -> Vetted
     ensures { VetSays pattern.now evidence.old evidence.new scratch.old scratch.new result }
 {
-    if evidence.len() < 4096 {
+    if evidence.len() < LEAST_EVIDENCE {
         return no_verdict(1);
     }
-    if scratch.len() < 8192 {
+    if scratch.len() < LEAST_SCRATCH {
         return no_verdict(2);
     }
     let mut more = [0u8; 3721];
@@ -38,7 +43,8 @@ pub fn mark_answer(pattern: &[u8], answer: &[u8]) -> Marked
     if p.refusal != 0 {
         return no_mark(p.refusal);
     }
-    if answer.len() > 4096 {
+    let long = answer.len() > 4096;
+    if long {
         return no_mark(9);
     }
     if !alphabet::all_letters(answer) {

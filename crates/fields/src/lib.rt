@@ -4,6 +4,9 @@
 ghost use Rattle.std.specs.Prelude.{◌≡◌, [], ◌∷◌, ◌++◌, ◌+◌, ◌≤◌, ◌<◌, length, drop};
 ghost use Rattle.fields.specs.Fields.{decimal, fields, result_line, Puts};
 
+// The verdict `steady`.
+const STEADY: u8 = 1;
+
 // The line of what vetting gave: `refused` and the refusal, or the verdict's word and the number of positions.
 pub fn put_result(
     number: u64,
@@ -23,7 +26,7 @@ pub fn put_result(
     if verdict == 0 {
         return put_fields(number, b"single", positions, out, at);
     }
-    if verdict == 1 {
+    if verdict == STEADY {
         return put_fields(number, b"steady", positions, out, at);
     }
     put_fields(number, b"runaway", positions, out, at)

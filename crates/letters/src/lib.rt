@@ -21,6 +21,11 @@ pub struct LetterSet {
 // All slots of a mask.
 const FULL: u64 = 0xffff_ffff_ffff_ffff;
 
+// The lowest code that has a slot, and the lowest of those past 127.
+const FIRST: u8 = 32;
+
+const FIRST_HIGH: u8 = 160;
+
 // The empty set.
 pub fn empty() -> LetterSet
     ensures { (c : ℕ) → has_letter result c ≡ false }
@@ -36,13 +41,13 @@ pub fn empty() -> LetterSet
 pub fn has(s: LetterSet, code: u8) -> bool
     ensures { result ≡ has_letter s code }
 {
-    if code < 32 {
+    if code < FIRST {
         return false;
     }
     if code < 128 {
         return has_at(s, (code - 32) as usize);
     }
-    if code < 160 {
+    if code < FIRST_HIGH {
         return false;
     }
     has_at(s, (code - 64) as usize)

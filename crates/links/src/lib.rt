@@ -6,6 +6,9 @@ ghost use Rattle.std.specs.Prelude.{◌≡◌, ◌&&◌, ◌||◌, ℕ, ◌<◌,
 ghost use Rattle.bits.specs.Bits.{has_bit};
 ghost use Rattle.links.specs.Rows.{further, Marks, Linked, Room, Further, LinksMore};
 
+// The rows of a table, one for each state.
+const ROWS: usize = 61;
+
 // Each of firsts may follow each of lasts that has a row.
 pub fn link(rows: &mut [u64; 61], lasts: u64, firsts: u64)
     requires { length rows.old ≡ 61 }
@@ -63,7 +66,7 @@ fn one_more(x: u8) -> u8
 pub fn position(n: usize) -> u64
     ensures { Marks result (λ b. eqb b n) }
 {
-    if n < 61 { bits::only(n) } else { 0 }
+    if n < ROWS { bits::only(n) } else { 0 }
 }
 
 // The members of x and, on a condition, those of y.

@@ -8,6 +8,12 @@ ghost use Rattle.links.specs.Rows.{Room};
 ghost use Rattle.parsed.specs.Tables.{Sized};
 ghost use Rattle.parsed.specs.Parsed.{Memory, Letters, Changes, Repeats, nothing_read, Either, Joins, closed_read};
 
+// What ends a pattern in `( )`.
+const CLOSE: u8 = b')';
+
+// The rows of the tables, one for each position, and row 0.
+const ROWS: usize = 61;
+
 // A part that was parsed: whether the grammar holds so far, where it goes on, how many positions there are up to there, 61 for more than
 // 60; whether the part can be empty, its firsts and its lasts; whether an atom of it has a reversed range, or no letter; whether
 // refusal 11 names an interval of it; whether two positions of it were linked more than once. Where `good` is false the rest means
@@ -89,7 +95,7 @@ pub fn closed(s: &[u8], p: Parsed) -> Parsed
 {
     let mut out = p;
     let at = p.at;
-    if places::byte_at(s, at) != b')' {
+    if places::byte_at(s, at) != CLOSE {
         out.good = false;
         return out;
     }
@@ -117,7 +123,7 @@ pub fn letter(s: &[u8], at: usize, n: usize, sets: &mut [u64], credits: &mut [u8
     }
     let set = a.set;
     let k = cut(n + 1);
-    if k < 61 {
+    if k < ROWS {
         set_table::write(&mut *sets, k, set);
         credits[k] = a.credit;
     }

@@ -8,6 +8,9 @@ ghost use Rattle.letters.specs.LetterSet.{code_at, has_letter};
 
 use letters::LetterSet;
 
+// The lowest code that has a slot.
+const FIRST: usize = 32;
+
 // The letters from a to b, both among them: none where a is past b. Codes that are no letters are left out.
 pub fn range(a: u8, b: u8) -> LetterSet
     ensures { (c : ℕ) → has_letter result c ≡ (is_letter c && (leb a c && leb c b)) }
@@ -41,7 +44,7 @@ pub fn only(code: u8) -> LetterSet
 fn slots_below(code: usize) -> usize
     ensures { (i : ℕ) → i < 192 → ltb i result ≡ ltb (code_at i) code }
 {
-    if code < 32 {
+    if code < FIRST {
         return 0;
     }
     if code < 128 {

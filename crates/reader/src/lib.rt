@@ -9,6 +9,11 @@ ghost use Rattle.reader.specs.Read.{Reads, Refuses, Builds};
 use graph::Built;
 use parts::ParsedRows;
 
+// The longest pattern, in bytes, and the most positions.
+const LONGEST: usize = 512;
+
+const MOST: usize = 60;
+
 // A pattern that was read: the number of the first refusal, of 3 to 7, 11 and 8, that applies to it, and an empty built pattern; or 0,
 // and the built pattern.
 #[derive(Clone, Copy)]
@@ -24,7 +29,7 @@ pub fn read(s: &[u8], more: &mut [u8]) -> ReadPattern
     requires { Room more.old × NoneCounted more.old }
     ensures { Reads s.now more.new result }
 {
-    if s.len() > 512 {
+    if s.len() > LONGEST {
         return refused(3);
     }
     if !alphabet::all_letters(s) {
@@ -46,7 +51,7 @@ pub fn read(s: &[u8], more: &mut [u8]) -> ReadPattern
     if part.misbounded {
         return refused(11);
     }
-    if part.n > 60 {
+    if part.n > MOST {
         return refused(8);
     }
     accepted(p, &sets, credits)

@@ -11,6 +11,9 @@ ghost use Rattle.vetting.specs.Answers.{Vettable, vetted, Judged};
 use graph::Built;
 use search::Goal;
 
+// What the search for a pivot gives where there is none.
+const NO_PIVOT: usize = 0;
+
 // What vetting gives: the refusal, or 0 and the verdict (0 single, 1 steady, 2 runaway), the number of positions, and the
 // lengths of the texts at the beginning of the evidence: of a steady pattern a text with two readings; of a runaway one a way to
 // its first pivot, a text with two loops there, and a way to an end. A built pattern is never refused.
@@ -36,7 +39,7 @@ pub fn vet(b: Built, more: &[u8], evidence: &mut [u8], scratch: &mut [u16]) -> V
     let mut shares = [0u64; 61];
     shares::share_rows(sets, &mut shares, b.positions);
     let q = search::first_pivot(&follow, &doubles, &shares, &mut *scratch, b.positions);
-    if q == 0 {
+    if q == NO_PIVOT {
         return single_or_steady(b, more, &doubles, &shares, &mut *evidence, &mut *scratch);
     }
     runaway(b, more, &doubles, &shares, &mut *evidence, &mut *scratch, q)

@@ -37,18 +37,18 @@ returns-then-credit_digit c =
     subst (ReadsCredit a.s.now a.at (read_credit (drop a.at a.s.now))) (sym c.credit_to-then-credit_digit.ensures)
     (credit_on a.s.now a.at (equals) d.result d.ensures (sym c.credit_digit.ensures ∙ c.if-credit_digit.true))
 
-pub returns-then-d-ne45 : goal.returns-then-d-ne45
-returns-then-d-ne45 c =
+pub returns-then-d-ne-MINUS : goal.returns-then-d-ne-MINUS
+returns-then-d-ne-MINUS c =
     let equals : (let a = c.args in peek (drop a.at a.s.now) ≡ 61) = sym c.byte_at.ensures ∙ c.if-byte_at-ne61.false in
     let a = c.args in
     let d = c.byte_at-d in
-    credit_bad a.s.now a.at (equals) d.result d.ensures (sym c.credit_digit.ensures ∙ c.if-credit_digit.false) c.if-d-ne45.true c.no_credit.result c.no_credit.ensures
+    credit_bad a.s.now a.at (equals) d.result d.ensures (sym c.credit_digit.ensures ∙ c.if-credit_digit.false) c.if-d-ne-MINUS.true c.no_credit.result c.no_credit.ensures
 
 pub overflow_add-at-2 : goal.overflow_add-at-2
 overflow_add-at-2 c =
     let a = c.args in
     let d = c.byte_at-d in
-    let w = byte_within a.s.now (a.at + 1) 44 (sym d.ensures ∙ c.if-d-ne45.false) in
+    let w = byte_within a.s.now (a.at + 1) 44 (sym d.ensures ∙ c.if-d-ne-MINUS.false) in
     omega arith
 
 pub returns-then-not-credit_digit : goal.returns-then-not-credit_digit
@@ -58,7 +58,7 @@ returns-then-not-credit_digit c =
     let d = c.byte_at-d in
     let e = c.byte_at-e in
     let t = c.credit_digit-2 in
-    credit_off_bad a.s.now a.at (equals) d.result d.ensures (sym c.credit_digit.ensures ∙ c.if-credit_digit.false) c.if-d-ne45.false e.result e.ensures
+    credit_off_bad a.s.now a.at (equals) d.result d.ensures (sym c.credit_digit.ensures ∙ c.if-credit_digit.false) c.if-d-ne-MINUS.false e.result e.ensures
     (sym t.ensures ∙ c.if-not-credit_digit.true) c.no_credit-then-not-credit_digit.result c.no_credit-then-not-credit_digit.ensures
 
 pub overflow_add-at-3 : goal.overflow_add-at-3
@@ -86,5 +86,5 @@ returns c =
     let e = c.byte_at-e in
     let t = c.credit_digit-2 in
     subst (ReadsCredit a.s.now a.at (read_credit (drop a.at a.s.now))) (sym c.credit_to-2.ensures)
-    (credit_off a.s.now a.at (equals) d.result d.ensures (sym c.credit_digit.ensures ∙ c.if-credit_digit.false) c.if-d-ne45.false e.result e.ensures
+    (credit_off a.s.now a.at (equals) d.result d.ensures (sym c.credit_digit.ensures ∙ c.if-credit_digit.false) c.if-d-ne-MINUS.false e.result e.ensures
     (sym t.ensures ∙ c.if-not-credit_digit.false))

@@ -8,17 +8,17 @@ use Rattle.bits.specs.Bits.{has_bit}
 use Rattle.bits.proofs.Laws.{has_ones, one_shl}
 use Rattle.bits.proofs.below.Goals as goal
 
-pub returns-then-n-eq64 : goal.returns-then-n-eq64
-returns-then-n-eq64 c j = has_ones 64 j ∙ ap (ltb j) (sym c.if-n-eq64.true)
+pub returns-then-n-eq-WIDTH : goal.returns-then-n-eq-WIDTH
+returns-then-n-eq-WIDTH c j = has_ones 64 j ∙ ap (ltb j) (sym c.if-n-eq-WIDTH.true)
 
 pub overflow_sub-result : goal.overflow_sub-result
 overflow_sub-result c =
     let n = c.args.n in
-    let h : n < 64 = omega (arith, c.if-n-eq64.false) in
+    let h : n < 64 = omega (arith, c.if-n-eq-WIDTH.false) in
     omega (arith, one_shl n h, pow_pos n)
 
 pub returns : goal.returns
 returns c j =
     let n = c.args.n in
-    let h : n < 64 = omega (arith, c.if-n-eq64.false) in
+    let h : n < 64 = omega (arith, c.if-n-eq-WIDTH.false) in
     ap (λ (x : ℕ). has_bit (x - 1) j) (one_shl n h) ∙ has_ones n j

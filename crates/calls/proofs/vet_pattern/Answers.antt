@@ -10,17 +10,17 @@ use Rattle.graph.specs.Built.{graph_of_built}
 use Rattle.calls.proofs.Vetting.{little_evidence, little_scratch, by_pattern, says_refusal, says_verdict, trim_built, answers}
 use Rattle.calls.proofs.vet_pattern.Goals as goal
 
-pub returns-then-evidence-lt4096 : goal.returns-then-evidence-lt4096
-returns-then-evidence-lt4096 c =
+pub returns-then-evidence-lt-LEAST_EVIDENCE : goal.returns-then-evidence-lt-LEAST_EVIDENCE
+returns-then-evidence-lt-LEAST_EVIDENCE c =
     let a = c.args in
     says_refusal 1 a.pattern.now a.evidence.now a.scratch.now c.no_verdict.result (λ e. omega arith)
-    (little_evidence a.pattern.now (length a.evidence.now) (length a.scratch.now) c.if-evidence-lt4096.true) c.no_verdict.ensures
+    (little_evidence a.pattern.now (length a.evidence.now) (length a.scratch.now) c.if-evidence-lt-LEAST_EVIDENCE.true) c.no_verdict.ensures
 
-pub returns-then-scratch-lt8192 : goal.returns-then-scratch-lt8192
-returns-then-scratch-lt8192 c =
+pub returns-then-scratch-lt-LEAST_SCRATCH : goal.returns-then-scratch-lt-LEAST_SCRATCH
+returns-then-scratch-lt-LEAST_SCRATCH c =
     let a = c.args in
-    says_refusal 2 a.pattern.now a.evidence.now a.scratch.now c.no_verdict-then-scratch-lt8192.result (λ e. omega arith)
-    (little_scratch a.pattern.now (length a.evidence.now) (length a.scratch.now) c.if-evidence-lt4096.false c.if-scratch-lt8192.true) c.no_verdict-then-scratch-lt8192.ensures
+    says_refusal 2 a.pattern.now a.evidence.now a.scratch.now c.no_verdict-then-scratch-lt-LEAST_SCRATCH.result (λ e. omega arith)
+    (little_scratch a.pattern.now (length a.evidence.now) (length a.scratch.now) c.if-evidence-lt-LEAST_EVIDENCE.false c.if-scratch-lt-LEAST_SCRATCH.true) c.no_verdict-then-scratch-lt-LEAST_SCRATCH.ensures
 
 pub read-p-requires : goal.read-p-requires
 read-p-requires c = (length-replicate {A = ℕ} 3721 0, zeros 3721)
@@ -30,7 +30,7 @@ returns-then-p-ne0 c =
     let a = c.args in
     let p = c.read-p in
     says_refusal p.result.refusal a.pattern.now a.evidence.now a.scratch.now c.no_verdict-then-p-ne0.result c.if-p-ne0.true
-    (by_pattern a.pattern.now (length a.evidence.now) (length a.scratch.now) c.if-evidence-lt4096.false c.if-scratch-lt8192.false ∙ sym p.ensures.refusal) c.no_verdict-then-p-ne0.ensures
+    (by_pattern a.pattern.now (length a.evidence.now) (length a.scratch.now) c.if-evidence-lt-LEAST_EVIDENCE.false c.if-scratch-lt-LEAST_SCRATCH.false ∙ sym p.ensures.refusal) c.no_verdict-then-p-ne0.ensures
 
 pub vet-requires : goal.vet-requires
 vet-requires c =
@@ -48,5 +48,5 @@ returns c =
     let f = sym p.ensures.refusal ∙ c.if-p-ne0.false in
     let l : length v.new.scratch ≡ length a.scratch.now = search rules in
     says_verdict a.pattern.now a.evidence.now v.new.evidence a.scratch.now v.new.scratch v.result
-    (by_pattern a.pattern.now (length a.evidence.now) (length a.scratch.now) c.if-evidence-lt4096.false c.if-scratch-lt8192.false ∙ f)
+    (by_pattern a.pattern.now (length a.evidence.now) (length a.scratch.now) c.if-evidence-lt-LEAST_EVIDENCE.false c.if-scratch-lt-LEAST_SCRATCH.false ∙ f)
     (answers a.pattern.now a.evidence.now v.new.evidence a.scratch.now v.new.scratch (graph_of_built p.result.built p.new.more) v.result p.ensures.graph f v.ensures l)

@@ -6,16 +6,16 @@ use Rattle.letters.proofs.Slots.{has_low, has_high, no_slot, slot_low, slot_high
 use Rattle.letters.proofs.Sets.{not_in, is_in_its_slot}
 use Rattle.letters.proofs.has.Goals as goal
 
-pub returns-then-code-lt32 : goal.returns-then-code-lt32
-returns-then-code-lt32 c = let a = c.args in sym (not_in a.s a.code (no_slot a.code (λ l h. omega arith) (λ l h. omega arith)))
+pub returns-then-code-lt-FIRST : goal.returns-then-code-lt-FIRST
+returns-then-code-lt-FIRST c = let a = c.args in sym (not_in a.s a.code (no_slot a.code (λ l h. omega arith) (λ l h. omega arith)))
 
 pub returns-then-code-lt128 : goal.returns-then-code-lt128
 returns-then-code-lt128 c =
     let a = c.args in
     c.has_at.ensures ∙ sym (is_in_its_slot a.s a.code (has_low a.code (omega arith) (omega arith)) ∙ ap (in_slot a.s) (slot_low a.code (omega arith)))
 
-pub returns-then-code-lt160 : goal.returns-then-code-lt160
-returns-then-code-lt160 c = let a = c.args in sym (not_in a.s a.code (no_slot a.code (λ l h. omega arith) (λ l h. omega arith)))
+pub returns-then-code-lt-FIRST_HIGH : goal.returns-then-code-lt-FIRST_HIGH
+returns-then-code-lt-FIRST_HIGH c = let a = c.args in sym (not_in a.s a.code (no_slot a.code (λ l h. omega arith) (λ l h. omega arith)))
 
 pub returns : goal.returns
 returns c =

@@ -1,6 +1,5 @@
 -- The packing is as it stands; the count is stored by the test on the refusal. Assumes nothing.
 use mathlib.Core.Path.{◌≡◌, ap, ◌∙◌}
-use mathlib.Core.Logic.{inl, inr}
 use Prim.Native.Nat.{ℕ, ◌+◌, ◌*◌, ◌^◌}
 use native.Mathlib.Omega.{arith}
 use mir.Facts.{to_z-of_z}
@@ -11,7 +10,6 @@ use Rattle.marking.proofs.Packing.{bits_low, mark_fits}
 use Rattle.marking.proofs.Stored.{count_after_is}
 use borrow.Author.Rules.{rules}
 use Rattle.marking.proofs.marking_mark.Goals as goal
-use Rattle.marking.proofs.marking_mark.Goals.{then-m-eq0, else-m-eq0}
 
 pub overflow_add-result-2 : goal.overflow_add-result-2
 overflow_add-result-2 c =
@@ -24,10 +22,9 @@ returns c =
     let bits_are : c.twos_complement.result ≡ bits32 c.mark_answer-m.result.mark = c.twos_complement.ensures ∙ ap bits32 (to_z-of_z (fits)) in
     let a = c.args in
     let m = c.mark_answer-m in
-    let last = c.if-m-eq0 in
     record {
       marked = m.result;
       says = m.ensures;
       packing = ap (λ (b : ℕ). m.result.taken * 2 ^ 40 + m.result.refusal * 2 ^ 32 + b) (bits_are);
-      stored = count_after_is a.pattern.now a.answer.now m.result a.count.now last.count m.ensures (elim last.branch [ then-m-eq0 w ↦ inl (w.if-m-eq0.true, w.count-is) | else-m-eq0 w ↦ inr (w.if-m-eq0.false, w.count-is) ]);
+      stored = count_after_is a.pattern.now a.answer.now m.result a.count.now _ m.ensures (search rules);
     }

@@ -83,7 +83,7 @@ loop-k-preserved c =
           by_equal j at.k
           (λ e.
           ap (λ (n : ℕ). dead g (take n a.answer.now)) e ∙ row_dead g q at.from at.active at.counts at.best at.invariant.small (at.invariant.row p bounded)
-          ∙ ne_eqb at.active 0 c.if-active-ne0.true)
+          ∙ ne_eqb at.active 0 (λ z. omega arith))
           (λ d. at.invariant.alive p bounded j (omega arith));
     }
 

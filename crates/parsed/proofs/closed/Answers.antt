@@ -5,8 +5,8 @@ use Rattle.places.proofs.Places.{next_within}
 use Rattle.parsed.proofs.Standing.{close_not, close_stands}
 use Rattle.parsed.proofs.closed.Goals as goal
 
-pub returns-then-byte_at-ne41 : goal.returns-then-byte_at-ne41
-returns-then-byte_at-ne41 c n now at m R w = close_not _ at n m now R _ w c.byte_at.result c.byte_at.ensures _ refl c.if-byte_at-ne41.true
+pub returns-then-byte_at-ne-CLOSE : goal.returns-then-byte_at-ne-CLOSE
+returns-then-byte_at-ne-CLOSE c n now at m R w = close_not _ at n m now R _ w c.byte_at.result c.byte_at.ensures _ refl c.if-byte_at-ne-CLOSE.true
 
 pub overflow_add-out : goal.overflow_add-out
 overflow_add-out c =
@@ -15,4 +15,4 @@ overflow_add-out c =
     omega arith
 
 pub returns : goal.returns
-returns c n now at m R w = close_stands _ at n m now R _ w c.byte_at.result c.byte_at.ensures c.if-byte_at-ne41.false
+returns c n now at m R w = close_stands _ at n m now R _ w c.byte_at.result c.byte_at.ensures c.if-byte_at-ne-CLOSE.false

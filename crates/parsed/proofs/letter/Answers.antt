@@ -11,7 +11,7 @@ use Rattle.links.specs.Rows.{Marks}
 use Rattle.parsed.proofs.Storing.{Filled}
 use Rattle.parsed.proofs.Standing.{stands_not, letter_stands}
 use Rattle.parsed.proofs.letter.Goals as goal
-use Rattle.parsed.proofs.letter.Goals.{then-k-lt61, else-k-lt61}
+use Rattle.parsed.proofs.letter.Goals.{then-k-lt-ROWS, else-k-lt-ROWS}
 
 pub returns-then-not-a : goal.returns-then-not-a
 returns-then-not-a c rows more =
@@ -28,10 +28,10 @@ pub bounds-credits-k : goal.bounds-credits-k
 bounds-credits-k c = omega (arith, c.requires.1.credits_are)
 
 pub shape_of-sets : goal.shape_of-sets
-shape_of-sets c = elim c.if-k-lt61.branch [ then-k-lt61 w ↦ ap length w.sets-is ∙ w.write.ensures.size | else-k-lt61 w ↦ ap length w.sets-is ]
+shape_of-sets c = elim c.if-k-lt-ROWS.branch [ then-k-lt-ROWS w ↦ ap length w.sets-is ∙ w.write.ensures.size | else-k-lt-ROWS w ↦ ap length w.sets-is ]
 
 pub shape_of-credits : goal.shape_of-credits
-shape_of-credits c = elim c.if-k-lt61.branch [ then-k-lt61 w ↦ ap length w.credits-is ∙ length-set c.args.credits.now _ _ | else-k-lt61 w ↦ ap length w.credits-is ]
+shape_of-credits c = elim c.if-k-lt-ROWS.branch [ then-k-lt-ROWS w ↦ ap length w.credits-is ∙ length-set c.args.credits.now _ _ | else-k-lt-ROWS w ↦ ap length w.credits-is ]
 
 pub returns : goal.returns
 returns c =
@@ -41,8 +41,8 @@ returns c =
     let next : c.args.n + 1 ≤ 60 → k.result ≡ c.args.n + 1 = λ h. omega (arith, k.ensures, h) in
     letter_stands _ _ _ _ _ _ _ _ _ _ a.result a.ensures good k.ensures (λ h. subst (λ (i : ℕ). Marks c.position-own.result (λ b. eqb b i)) (next h) c.position-own.ensures) c.requires.1.credits_are
     (λ h.
-    elim c.if-k-lt61.branch [
-      | then-k-lt61 w ↦ subst (λ (i : ℕ). Filled i a.result.set a.result.credit c.args.sets.now c.args.credits.now c.if-k-lt61.sets c.if-k-lt61.credits) (next h)
+    elim c.if-k-lt-ROWS.branch [
+      | then-k-lt-ROWS w ↦ subst (λ (i : ℕ). Filled i a.result.set a.result.credit c.args.sets.now c.args.credits.now c.if-k-lt-ROWS.sets c.if-k-lt-ROWS.credits) (next h)
           record { letters = subst (λ (l : List ℕ). Writes k.result a.result.set c.args.sets.now l) (sym w.sets-is) w.write.ensures; numbers = w.credits-is }
-      | else-k-lt61 w ↦ absurd (omega (arith, h, next h, w.if-k-lt61.false))
+      | else-k-lt-ROWS w ↦ absurd (omega (arith, h, next h, w.if-k-lt-ROWS.false))
     ])

@@ -8,8 +8,8 @@ use Rattle.letters.specs.LetterSet.{code_at}
 use Rattle.letters.proofs.Slots.{by_slot}
 use Rattle.ranges.proofs.slots_below.Goals as goal
 
-pub returns-then-code-lt32 : goal.returns-then-code-lt32
-returns-then-code-lt32 c i l = let k = c.args.code in by_slot (ltb i 0 ≡ ltb (code_at i) k) i (λ h e. same_less i 0 (code_at i) k (λ x. omega arith) (λ x. omega arith)) (λ h e. same_less i 0 (code_at i) k (λ x. omega arith) (λ x. omega arith))
+pub returns-then-code-lt-FIRST : goal.returns-then-code-lt-FIRST
+returns-then-code-lt-FIRST c i l = let k = c.args.code in by_slot (ltb i 0 ≡ ltb (code_at i) k) i (λ h e. same_less i 0 (code_at i) k (λ x. omega arith) (λ x. omega arith)) (λ h e. same_less i 0 (code_at i) k (λ x. omega arith) (λ x. omega arith))
 
 pub returns-then-code-lt128 : goal.returns-then-code-lt128
 returns-then-code-lt128 c i l =

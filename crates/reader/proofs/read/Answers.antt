@@ -55,15 +55,15 @@ module _ {s rows more sets credits : List ℕ} {p : Parsed} (short : length s �
 
 -- ---- the returns
 
-pub returns-then-s-gt512 : goal.returns-then-s-gt512
-returns-then-s-gt512 c =
+pub returns-then-s-gt-LONGEST : goal.returns-then-s-gt-LONGEST
+returns-then-s-gt-LONGEST c =
     let s = c.args.s.now in
-    refuses s 0 _ c.refused.result (omega arith) tt (lt-ltb 512 (length s) c.if-s-gt512.true) c.refused.ensures
+    refuses s 0 _ c.refused.result (omega arith) tt (lt-ltb 512 (length s) c.if-s-gt-LONGEST.true) c.refused.ensures
 
 pub returns-then-not-all_letters : goal.returns-then-not-all_letters
 returns-then-not-all_letters c =
     let s = c.args.s.now in
-    refuses s 1 _ c.refused-then-not-all_letters.result (omega arith) (le-ltb 512 (length s) c.if-s-gt512.false, tt) (ap not (sym c.all_letters.ensures ∙ c.if-not-all_letters.true)) c.refused-then-not-all_letters.ensures
+    refuses s 1 _ c.refused-then-not-all_letters.result (omega arith) (le-ltb 512 (length s) c.if-s-gt-LONGEST.false, tt) (ap not (sym c.all_letters.ensures ∙ c.if-not-all_letters.true)) c.refused-then-not-all_letters.ensures
 
 pub parse-p-requires : goal.parse-p-requires
 parse-p-requires c =
@@ -75,7 +75,7 @@ returns-then-not-part-s c =
     let s = c.args.s.now in
     let part = c.parse-p.result.part in
     let reads = c.parse-p.ensures in
-    let short = c.if-s-gt512.false in
+    let short = c.if-s-gt-LONGEST.false in
     let letters : all_letters s ≡ true = sym c.all_letters.ensures ∙ c.if-not-all_letters.false in
     refuses s 2 _ c.refused-then-not-part-s.result (omega arith) (passes_2 short letters reads) (ap not (sym (whole_pattern s _ _ _ _ part reads) ∙ c.if-not-part-s.true)) c.refused-then-not-part-s.ensures
 
@@ -84,7 +84,7 @@ returns-then-part c =
     let s = c.args.s.now in
     let part = c.parse-p.result.part in
     let reads = c.parse-p.ensures in
-    let short = c.if-s-gt512.false in
+    let short = c.if-s-gt-LONGEST.false in
     let letters : all_letters s ≡ true = sym c.all_letters.ensures ∙ c.if-not-all_letters.false in
     let ends : (part.good && eqb part.at (length s)) ≡ true = c.if-not-part-s.false in
     refuses s 3 _ c.refused-then-part.result (omega arith) (passes_3 short letters reads ends) (sym (parsed short letters reads ends).reversed ∙ c.if-part.true) c.refused-then-part.ensures
@@ -94,7 +94,7 @@ returns-then-part-2 c =
     let s = c.args.s.now in
     let part = c.parse-p.result.part in
     let reads = c.parse-p.ensures in
-    let short = c.if-s-gt512.false in
+    let short = c.if-s-gt-LONGEST.false in
     let letters : all_letters s ≡ true = sym c.all_letters.ensures ∙ c.if-not-all_letters.false in
     let ends : (part.good && eqb part.at (length s)) ≡ true = c.if-not-part-s.false in
     refuses s 4 _ c.refused-then-part-2.result (omega arith) (passes_4 short letters reads ends c.if-part.false) (sym (parsed short letters reads ends).hollow ∙ c.if-part-2.true) c.refused-then-part-2.ensures
@@ -104,32 +104,32 @@ returns-then-part-3 c =
     let s = c.args.s.now in
     let part = c.parse-p.result.part in
     let reads = c.parse-p.ensures in
-    let short = c.if-s-gt512.false in
+    let short = c.if-s-gt-LONGEST.false in
     let letters : all_letters s ≡ true = sym c.all_letters.ensures ∙ c.if-not-all_letters.false in
     let ends : (part.good && eqb part.at (length s)) ≡ true = c.if-not-part-s.false in
     refuses s 5 _ c.refused-then-part-3.result (omega arith) (passes_5 short letters reads ends c.if-part.false c.if-part-2.false) (sym (parsed short letters reads ends).misbounded ∙ c.if-part-3.true) c.refused-then-part-3.ensures
 
-pub returns-then-part-gt60 : goal.returns-then-part-gt60
-returns-then-part-gt60 c =
+pub returns-then-part-gt-MOST : goal.returns-then-part-gt-MOST
+returns-then-part-gt-MOST c =
     let s = c.args.s.now in
     let part = c.parse-p.result.part in
     let reads = c.parse-p.ensures in
-    let short = c.if-s-gt512.false in
+    let short = c.if-s-gt-LONGEST.false in
     let letters : all_letters s ≡ true = sym c.all_letters.ensures ∙ c.if-not-all_letters.false in
     let ends : (part.good && eqb part.at (length s)) ≡ true = c.if-not-part-s.false in
     let count = (parsed short letters reads ends).count in
-    refuses s 6 _ c.refused-then-part-gt60.result (omega arith) (passes_6 short letters reads ends c.if-part.false c.if-part-2.false c.if-part-3.false) (lt-ltb 60 (positions (pattern_part s)) (omega (arith, c.if-part-gt60.true))) c.refused-then-part-gt60.ensures
+    refuses s 6 _ c.refused-then-part-gt-MOST.result (omega arith) (passes_6 short letters reads ends c.if-part.false c.if-part-2.false c.if-part-3.false) (lt-ltb 60 (positions (pattern_part s)) (omega (arith, c.if-part-gt-MOST.true))) c.refused-then-part-gt-MOST.ensures
 
 pub returns : goal.returns
 returns c =
     let s = c.args.s.now in
     let part = c.parse-p.result.part in
     let reads = c.parse-p.ensures in
-    let short = c.if-s-gt512.false in
+    let short = c.if-s-gt-LONGEST.false in
     let letters : all_letters s ≡ true = sym c.all_letters.ensures ∙ c.if-not-all_letters.false in
     let ends : (part.good && eqb part.at (length s)) ≡ true = c.if-not-part-s.false in
-    let passes = passes_7 short letters reads ends c.if-part.false c.if-part-2.false c.if-part-3.false c.if-part-gt60.false in
-    let l = few short letters reads ends c.if-part-gt60.false in
+    let passes = passes_7 short letters reads ends c.if-part.false c.if-part-2.false c.if-part-3.false c.if-part-gt-MOST.false in
+    let l = few short letters reads ends c.if-part-gt-MOST.false in
     let w = (parsed short letters reads ends).keeps l in
     let made = c.accepted.ensures.1 in
     accepts s _ _ passes c.accepted.ensures.0 (made.graph (pattern_part s) _ w l (links_few s (no_refusal s passes))) (stored_bounded (pattern_part s) _ _ w.stored l)

@@ -19,7 +19,7 @@ single_or_steady-requires c =
     let first : first_pivot (graph_of_built c.args.b c.args.more.now) ≡ c.first_pivot-q.result =
     let fit = c.requires.0 in
     c.first_pivot-q.ensures (graph_of_built c.args.b c.args.more.now) (rows_of fit) (doubled) (shared) refl in
-    (c.requires.0, doubled, shared, first ∙ c.if-q-eq0.true, c.requires.2, omega (arith, c.requires.3, c.first_pivot-q.auto.scratch))
+    (c.requires.0, doubled, shared, first ∙ c.if-q-eq-NO_PIVOT.true, c.requires.2, omega (arith, c.requires.3, c.first_pivot-q.auto.scratch))
 
 pub runaway-requires : goal.runaway-requires
 runaway-requires c =
@@ -28,4 +28,4 @@ runaway-requires c =
     let first : first_pivot (graph_of_built c.args.b c.args.more.now) ≡ c.first_pivot-q.result =
     let fit = c.requires.0 in
     c.first_pivot-q.ensures (graph_of_built c.args.b c.args.more.now) (rows_of fit) (doubled) (shared) refl in
-    (c.requires.0, doubled, shared, first, omega (arith, c.if-q-eq0.false), c.requires.2, omega (arith, c.requires.3, c.first_pivot-q.auto.scratch))
+    (c.requires.0, doubled, shared, first, omega (arith, c.if-q-eq-NO_PIVOT.false), c.requires.2, omega (arith, c.requires.3, c.first_pivot-q.auto.scratch))
