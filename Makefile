@@ -19,7 +19,7 @@ bindir = $(prefix)/bin
 LIBRARY = target/staticlib/libmarking.a
 PROGRAM = target/bin/vet
 CLIENT = target/c/client
-# what is proved: all of the crates but the edits that must fail; with the folders, so that a file that is gone is noticed
+# what is proved: all files and folders in the crates, so that a file that is gone is noticed, but the edits that must fail and what rt writes
 SOURCES := crates.txt $(shell find crates -mindepth 2 \( -name must-fail -o -name out \) -prune -o -print)
 
 .PHONY: run run-latin1 show test bench soak install uninstall fmt clean library program

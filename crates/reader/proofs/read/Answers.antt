@@ -7,6 +7,7 @@ use Prim.Native.Nat.{ℕ, ◌≤◌}
 use native.Mathlib.Omega.{arith}
 use lib.Dec.{eqb}
 use lib.ListN.{length}
+use borrow.Author.Rules.{rules}
 use borrow.Author.Tests.{lt-ltb, le-ltb}
 use Rattle.basics.proofs.Tests.{and_parts}
 use Rattle.pattern.specs.Grammar.{read_pattern, is_pattern, pattern_part}
@@ -118,7 +119,7 @@ returns-then-part-gt-MOST c =
     let letters : all_letters s ≡ true = sym c.all_letters.ensures ∙ c.if-not-all_letters.false in
     let ends : (part.good && eqb part.at (length s)) ≡ true = c.if-not-part-s.false in
     let count = (parsed short letters reads ends).count in
-    refuses s 6 _ c.refused-then-part-gt-MOST.result (omega arith) (passes_6 short letters reads ends c.if-part.false c.if-part-2.false c.if-part-3.false) (lt-ltb 60 (positions (pattern_part s)) (omega (arith, c.if-part-gt-MOST.true))) c.refused-then-part-gt-MOST.ensures
+    refuses s 6 _ c.refused-then-part-gt-MOST.result (omega arith) (passes_6 short letters reads ends c.if-part.false c.if-part-2.false (search rules)) (lt-ltb 60 (positions (pattern_part s)) (omega (arith, c.if-part-gt-MOST.true))) c.refused-then-part-gt-MOST.ensures
 
 pub returns : goal.returns
 returns c =
