@@ -1,4 +1,4 @@
--- The laws of hasBit, one for each operation of the machine, at every place. The idea: a number is its half, doubled,
+-- The laws of has_bit, one for each operation of the machine, at every place. The idea: a number is its half, doubled,
 -- and its lowest digit, so that each law goes by recursion on the place. Assumes nothing.
 use mathlib.Core.Path.{◌≡◌, refl, sym, ap, ap₂, ◌∙◌, subst}
 use mathlib.Core.Logic.{⊎_elim}

@@ -29,7 +29,8 @@ pub fn interval(s: &[u8], at: usize) -> IntervalRead
     }
     let m = bound(s, at);
     let b = places::byte_at(s, m.at);
-    if b == CLOSE {
+    let exact = b == CLOSE;
+    if exact {
         return up_to(m.at + 1, m.value, m.value, false);
     }
     if b != b',' {

@@ -1,20 +1,21 @@
--- The fields of a line: a decimal number by its last digit, and how long a line can be. Assumes nothing.
+-- The fields of a line: the fewest digits are the decimal number, and how long a line can be. Assumes nothing.
 use mathlib.Core.Path.{◌≡◌, refl, sym, ap, ◌∙◌, subst}
-use mathlib.Core.List.{List, [], ◌∷◌, ◌++◌, append_assoc}
-use mathlib.Core.Logic.{⊎_elim}
+use mathlib.Core.List.{List, [], ◌∷◌, ◌++◌}
 use Prim.Native.Nat.{ℕ, zero, suc, ◌+◌, ◌-◌, ◌/◌, ◌%◌, ◌^◌, ◌≤◌, ◌<◌}
-use native.Mathlib.Nat.{pow-suc, div-lt_iff_lt-mul, div-lt_self}
-use native.Mathlib.Numerals.{add-one}
+use native.Mathlib.Nat.{pow-suc, mod-lt, mod-eq_of_lt, le-div_iff_mul-le, div-lt_iff_lt-mul, div-lt_self, pow-le-pow_right}
 use native.Mathlib.Omega.{arith}
 use lib.Dec.{eqb, ltb}
-use lib.ListN.{length, drop, set, length-append}
-use Rattle.std.proofs.lemmas.List.{drop-set}
+use lib.ListN.{length, length-append}
 use borrow.Author.Tests.{lt-ltb, le-ltb, eq-eqb, ne_eqb}
 use Rattle.basics.specs.Bytes.{codes}
-use Rattle.basics.proofs.Tests.{if_yes, if_no, if_either, le_or_lt}
+use Rattle.basics.proofs.Tests.{if_yes, if_no, if_either}
+use Rattle.io.specs.Digits.{hex_digit_ascii, last_digits, IsDigitCount}
 use Rattle.fields.specs.Fields.{digits_below, decimal, word, fields, result_line}
 
 -- ---- decimal numbers
+
+glyph_digit : (d : ℕ) → d < 10 → hex_digit_ascii d ≡ 48 + d
+glyph_digit d h = rw (lt-ltb d 10 h)
 
 -- one digit, and a digit after those of n / 10
 one_digit : (f n : ℕ) → n < 10 → digits_below (suc f) n ≡ (48 + n) ∷ []
@@ -28,55 +29,30 @@ more_digits f n h = if_no ((48 + n) ∷ []) (digits_below f (n / 10) ++ ((48 + n
 tenth : (k n : ℕ) → n < 10 ^ suc k → n / 10 < 10 ^ k
 tenth k n h = (div-lt_iff_lt-mul {k = 10} {x = n} {y = 10 ^ k} (omega arith)).1 (subst (λ (m : ℕ). n < m) (pow-suc 10 k) h)
 
--- more steps than are needed change nothing
-digits_same : (f g n : ℕ) → n < f → n < g → digits_below f n ≡ digits_below g n
-digits_same zero g n h k = absurd (omega arith)
-digits_same (suc f) zero n h k = absurd (omega arith)
-digits_same (suc f) (suc g) n h k =
-    ⊎_elim
-    (λ (l : 10 ≤ n).
+tenth_from : (k n : ℕ) → 10 ^ suc k ≤ n → 10 ^ k ≤ n / 10
+tenth_from k n h = (le-div_iff_mul-le {k = 10} {x = 10 ^ k} {y = n} (omega arith)).1 (subst (λ (m : ℕ). m ≤ n) (pow-suc 10 k) h)
+
+fewest_digits : (f k n : ℕ) → n < f → IsDigitCount 10 1 n k → last_digits 10 k n ≡ digits_below f n
+fewest_digits zero k n h w = absurd (omega arith)
+fewest_digits (suc f) zero n h w = let l = w.0 in absurd (omega arith)
+fewest_digits (suc f) (suc zero) n h w =
+    let l : n < 10 = w.1 in
+    let e : n % 10 ≡ n = mod-eq_of_lt l in
+    ap (λ (d : ℕ). hex_digit_ascii d ∷ []) e ∙ ap (λ (g : ℕ). g ∷ []) (glyph_digit n l) ∙ sym (one_digit f n l)
+fewest_digits (suc f) (suc (suc j)) n h w =
+    let m : suc (suc j) - 1 ≡ suc j = omega arith in
+    let l : 10 ^ suc j ≤ n = subst (λ (i : ℕ). 10 ^ i ≤ n) m (w.2 (omega arith)) in
+    let t : 10 ≤ n = omega (arith, l, pow-le-pow_right {n = 10} (omega arith) {i = 1} {j = suc j} (omega arith)) in
     let s : n / 10 < n = div-lt_self {n = n} {k = 10} (omega arith) (omega arith) in
-    more_digits f n l ∙ ap (λ (d : List ℕ). d ++ ((48 + n % 10) ∷ [])) (digits_same f g (n / 10) (omega arith) (omega arith)) ∙ sym (more_digits g n l))
-    (λ (l : n < 10). one_digit f n l ∙ sym (one_digit g n l))
-    (le_or_lt 10 n)
+    let r : last_digits 10 (suc j) (n / 10) ≡ digits_below f (n / 10) =
+    fewest_digits f (suc j) (n / 10) (omega arith) (omega arith, tenth (suc j) n w.1, λ q. subst (λ (i : ℕ). 10 ^ i ≤ n / 10) (omega arith) (tenth_from j n l)) in
+    ap (λ (x : List ℕ). x ++ (hex_digit_ascii (n % 10) ∷ [])) r
+    ∙ ap (λ (g : ℕ). digits_below f (n / 10) ++ (g ∷ [])) (glyph_digit (n % 10) (mod-lt n {m = 10} (omega arith)))
+    ∙ sym (more_digits f n t)
 
--- the only digit of a number, and the last of more
-pub decimal_one : (n : ℕ) → n < 10 → decimal n ≡ (48 + n) ∷ []
+pub fewest_decimal : (k n : ℕ) → IsDigitCount 10 1 n k → last_digits 10 k n ≡ decimal n
 unfolding decimal
-decimal_one n h = one_digit n n h
-
-pub decimal_more : (n : ℕ) → 10 ≤ n → decimal n ≡ decimal (n / 10) ++ ((48 + n % 10) ∷ [])
-unfolding decimal
-decimal_more n h =
-    let s : n / 10 < n = div-lt_self {n = n} {k = 10} (omega arith) (omega arith) in
-    more_digits n n h ∙ ap (λ (d : List ℕ). d ++ ((48 + n % 10) ∷ [])) (digits_same n (suc (n / 10)) (n / 10) s (omega arith))
-
--- ---- a number written from its last digit on: before byte k + 1 of t stands what is still to write
-
--- a number of two digits or more needs more than a byte
-pub some_left : (k n : ℕ) → n < 10 ^ (k + 1) → 10 ≤ n → 0 < k
-some_left zero n h l = absurd (omega arith)
-some_left (suc k) n h l = omega arith
-
--- and what is left of it fits into one byte less
-pub left_fits : (k n : ℕ) → n < 10 ^ (k + 1) → 10 ≤ n → n / 10 < 10 ^ (k - 1 + 1)
-left_fits k n h l =
-    let z = some_left k n h l in
-    let e : k ≡ k - 1 + 1 = omega arith in
-    subst (λ (j : ℕ). n / 10 < 10 ^ j) e (tenth k n (subst (λ (j : ℕ). n < 10 ^ j) (add-one k) h))
-
-pub digit_more : (k n : ℕ) (t : List ℕ) → 0 < k → k < length t → 10 ≤ n → decimal (n / 10) ++ drop (k - 1 + 1) (set t k (48 + n % 10)) ≡ decimal n ++ drop (k + 1) t
-digit_more k n t z h l =
-    let e : k - 1 + 1 ≡ k = omega arith in
-    ap (λ (j : ℕ). decimal (n / 10) ++ drop j (set t k (48 + n % 10))) e
-    ∙ ap (λ (d : List ℕ). decimal (n / 10) ++ d) (drop-set t k (48 + n % 10) h)
-    ∙ sym (append_assoc (decimal (n / 10)) ((48 + n % 10) ∷ []) (drop (k + 1) t))
-    ∙ ap (λ (d : List ℕ). d ++ drop (k + 1) t) (sym (decimal_more n l))
-
-pub digit_last : (k n : ℕ) (t : List ℕ) → k < length t → n < 10 → drop k (set t k (48 + n)) ≡ decimal n ++ drop (k + 1) t
-digit_last k n t h l = drop-set t k (48 + n) h ∙ ap (λ (d : List ℕ). d ++ drop (k + 1) t) (sym (decimal_one n l))
-
--- ---- how long a number can be
+fewest_decimal k n w = fewest_digits (suc n) k n (omega arith) w
 
 digits_short : (f k n : ℕ) → n < 10 ^ suc k → length (digits_below f n) ≤ suc k
 unfolding digits_below

@@ -8,6 +8,7 @@ use native.Mathlib.Numerals.{add-one}
 use native.Mathlib.Omega.{arith}
 use lib.ListN.{length, take, drop, get_or, set, length-append}
 use lib.Seq.{sets, sets-eq, length-sets, take_at, take-suc, take_all, length-take-le}
+use Rattle.io.specs.Counts.{IsPrefixLen}
 use Rattle.fields.specs.Fields.{Puts}
 
 pub sets_append : (s t l : List ℕ) (i : ℕ) → sets (sets l i s) (i + length s) t ≡ sets l i (s ++ t)
@@ -49,7 +50,7 @@ puts_all text old new a i r h p = subst (λ (t : List ℕ). Puts t old a new r) 
 
 module _ {text old new : List ℕ} {len : ℕ} (p : Puts text old 0 new len) (fits : len ≤ length old) where
   -- its length counts bytes of the slice
-  pub puts_counts : (len ≤ length new) × (len ≡ length (take len new))
+  pub puts_counts : IsPrefixLen len new
   puts_counts =
       let k = puts_kept p in
       let l : len ≤ length new = omega arith in

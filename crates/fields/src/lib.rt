@@ -1,7 +1,7 @@
 // The fields of a line, put into a slice from byte `at` on: each function gives the place after what it put.
 #![tactic(auto)]
 
-ghost use Rattle.std.specs.Prelude.{◌≡◌, [], ◌∷◌, ◌++◌, ◌+◌, ◌≤◌, ◌<◌, length, drop};
+ghost use Rattle.std.specs.Prelude.{[], ◌∷◌, ◌++◌, ◌+◌, ◌≤◌, ◌<◌, length};
 ghost use Rattle.fields.specs.Fields.{decimal, fields, result_line, Puts};
 
 // The verdict `steady`.
@@ -63,22 +63,6 @@ fn put_number(n: u64, end: u8, out: &mut [u8], at: usize) -> usize
     ensures { Puts (decimal n ++ (end ∷ [])) out.old at out.new result }
 {
     let mut digits = [0u8; 20];
-    let first = write_decimal(n, &mut digits);
-    put(&digits[first..], end, out, at)
-}
-
-// A number in decimal, at the end of `digits`, which has room for the longest; gives where it begins.
-fn write_decimal(n: u64, digits: &mut [u8; 20]) -> usize
-    ensures within { result ≤ 20 }
-    ensures digits { drop result digits.new ≡ decimal n }
-{
-    let mut rest = n;
-    let mut first = 19;
-    while rest >= 10 {
-        digits[first] = b'0' + (rest % 10) as u8;
-        rest /= 10;
-        first -= 1;
-    }
-    digits[first] = b'0' + rest as u8;
-    first
+    let k = io::decimal(n, &mut digits);
+    put(&digits[..k], end, out, at)
 }

@@ -1,5 +1,5 @@
--- The laws of hasLetter. The idea: a set is its 192 slots, a slot is i of the low word, or 64 + i of the middle one, or 128 + i of the
--- high one, and in each of the three a law of in_slot is one of hasBit. Assumes nothing.
+-- The laws of has_letter. The idea: a set is its 192 slots, a slot is i of the low word, or 64 + i of the middle one, or 128 + i of the
+-- high one, and in each of the three a law of in_slot is one of has_bit. Assumes nothing.
 use mathlib.Core.Path.{◌≡◌, refl, sym, ap, ap₂, ◌∙◌, subst}
 use mathlib.Core.Logic.{⊎_elim}
 use mathlib.Core.Bool.{Bool, true, false, not, ◌&&◌, and-true, and-false, true≢false}

@@ -53,10 +53,6 @@ pub record EndsAt (s : List ℕ) (a r : ℕ) : Type 0 where
   pub inside : r ≤ length s
   pub cuts : patterns_of (drop a s) ≡ take (r - a) (drop a s) ∷ patterns_of (drop (r + 1) s)
 
--- n counts bytes of a slice: its first n bytes are n
-abbrev pub IsPrefixLen : ℕ → List ℕ → Type 0
-IsPrefixLen n xs = (n ≤ length xs) × (n ≡ length (take n xs))
-
 -- a run before its first line
 abbrev pub start : Run
 start = record { from = 0; number = 1; len = 0 }

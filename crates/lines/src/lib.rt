@@ -3,8 +3,9 @@
 #![tactic(auto)]
 
 ghost use Rattle.std.specs.Prelude.{◌≡◌, ◌+◌, ◌≤◌, ◌<◌, length};
+ghost use Rattle.io.specs.Counts.{IsPrefixLen};
 ghost use Rattle.fields.specs.Fields.{Puts};
-ghost use Rattle.lines.specs.Lines.{line_of, EndsAt, start, IsPrefixLen, HasLine, PatternLine, NextLine};
+ghost use Rattle.lines.specs.Lines.{line_of, EndsAt, start, HasLine, PatternLine, NextLine};
 
 // The longest input whose patterns are vetted, in bytes.
 const LONGEST_INPUT: usize = 65536;

@@ -15,22 +15,22 @@ returns-then-not-is_digit c = reads_none _ _ _ _ c.none.ensures (no_digit (drop 
 
 pub overflow_add-m : goal.overflow_add-m
 overflow_add-m c =
-    let fits : ((t : ℕ) → 0 < peek (drop t c.args.s.now) → t + 1 < 18446744073709551616) = λ t h. let i = next_within c.args.s.now t h in omega arith in omega (arith, fits c.bound-m.result.at (omega (arith, c.byte_at-b.ensures, c.if-b-eq-CLOSE.true)))
+    let fits : ((t : ℕ) → 0 < peek (drop t c.args.s.now) → t + 1 < 18446744073709551616) = λ t h. let i = next_within c.args.s.now t h in omega arith in omega (arith, fits c.bound-m.result.at (omega (arith, c.byte_at-b.ensures, c.if-exact.true)))
 
-pub returns-then-b-eq-CLOSE : goal.returns-then-b-eq-CLOSE
-returns-then-b-eq-CLOSE c =
+pub returns-then-exact : goal.returns-then-exact
+returns-then-exact c =
     let text : List ℕ = c.args.s.now in
     let place : ℕ = c.args.at in
     let digit : is_digit (peek (drop (place) (text))) ≡ true = ap is_digit (sym c.byte_at.ensures) ∙ sym c.is_digit.ensures ∙ c.if-not-is_digit.false in
     let m = c.bound-m in
     let b = c.byte_at-b in
-    reads_to (text) (place) m.result.at _ _ _ _ _ c.up_to.ensures m.ensures.on (omega (arith, b.ensures, c.if-b-eq-CLOSE.true)) (exactly _ _ _ m.ensures (digit) b.result b.ensures c.if-b-eq-CLOSE.true)
+    reads_to (text) (place) m.result.at _ _ _ _ _ c.up_to.ensures m.ensures.on (omega (arith, b.ensures, c.if-exact.true)) (exactly _ _ _ m.ensures (digit) b.result b.ensures c.if-exact.true)
 
 pub returns-then-b-ne44 : goal.returns-then-b-ne44
 returns-then-b-ne44 c =
     let text : List ℕ = c.args.s.now in
     let place : ℕ = c.args.at in
-    let digit : is_digit (peek (drop (place) (text))) ≡ true = ap is_digit (sym c.byte_at.ensures) ∙ sym c.is_digit.ensures ∙ c.if-not-is_digit.false in reads_none _ _ _ _ c.none-then-b-ne44.ensures (neither _ _ _ c.bound-m.ensures (digit) c.byte_at-b.result c.byte_at-b.ensures c.if-b-eq-CLOSE.false c.if-b-ne44.true)
+    let digit : is_digit (peek (drop (place) (text))) ≡ true = ap is_digit (sym c.byte_at.ensures) ∙ sym c.is_digit.ensures ∙ c.if-not-is_digit.false in reads_none _ _ _ _ c.none-then-b-ne44.ensures (neither _ _ _ c.bound-m.ensures (digit) c.byte_at-b.result c.byte_at-b.ensures c.if-exact.false c.if-b-ne44.true)
 
 pub overflow_add-t : goal.overflow_add-t
 overflow_add-t c =
