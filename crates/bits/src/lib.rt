@@ -2,9 +2,10 @@
 // Every contract says of each number j, also of those past 63, whether the result has it.
 #![tactic(auto)]
 
-ghost use Rattle.std.specs.Prelude.{◌≡◌, not, ◌&&◌, ◌||◌, ℕ, ◌-◌, ◌<◌, ◌≤◌, eqb, ltb, leb};
+ghost use Rattle.std.specs.Prelude.{◌≡◌, Bool, not, ◌&&◌, ◌||◌, ℕ, ◌-◌, ◌<◌, ◌≤◌, eqb, ltb, leb};
+ghost use Rattle.std.specs.Iterator.{at_most};
 ghost use Rattle.basics.specs.Folds.{Less};
-ghost use Rattle.bits.specs.Bits.{has_bit, Least};
+ghost use Rattle.bits.specs.Bits.{has_bit, Least, TakesLeast, Gives};
 
 // How many numbers a set can have.
 const WIDTH: usize = 64;
@@ -107,4 +108,57 @@ pub fn rest(mask: u64) -> u64
     ensures { (result < mask) × ((t : ℕ) → Least mask t → Less (has_bit mask) t (has_bit result)) }
 {
     mask & (mask - 1)
+}
+
+// A set of numbers from which the least can be taken. A loop over `members` walks it, from the least member up.
+pub trait NumberSet: Copy {
+    // Is a number a member.
+    ghost has: { Self → ℕ → Bool };
+
+    // A number that falls with each member taken out.
+    ghost weight: { Self → ℕ };
+
+    // The least member and the set of the others; None for the empty set.
+    fn take_least(self) -> Option<(usize, Self)>
+        ensures { TakesLeast has weight self result };
+}
+
+impl NumberSet for u64 {
+    ghost has = { has_bit };
+
+    ghost weight = { λ m. m };
+
+    fn take_least(self) -> Option<(usize, u64)> {
+        if self == 0 {
+            return None;
+        }
+        Some((lowest(self), rest(self)))
+    }
+}
+
+// A walk through a set: the members still to come.
+#[derive(Clone, Copy)]
+pub struct Walker<S> {
+    pub left: S,
+}
+
+impl<S: NumberSet> Iterator for Walker<S> {
+    type Item = usize;
+
+    ghost next_gives = { λ s r t. Gives S.has S.weight s.left r t.left };
+
+    ghost remaining = { λ s. at_most (S.weight s.left) };
+
+    fn next(&mut self) -> Option<usize> {
+        let (least, others) = self.left.take_least()?;
+        self.left = others;
+        Some(least)
+    }
+}
+
+// The members of a set, the least first.
+pub fn members<S: NumberSet>(set: S) -> Walker<S>
+    ensures { result.left ≡ set }
+{
+    Walker { left: set }
 }
