@@ -76,7 +76,7 @@ module _ (linked : Bool) (more before credits : List ℕ) (from to active holds 
           fits = fits;
           states = λ j.
               ap (λ (b : Bool). b || any_if (has_bit r) (to_be j) 61) (e j) ∙ or_assoc (has_bit out j) (to_be j t) (any_if (has_bit r) (to_be j) 61)
-              ∙ ap (λ (b : Bool). has_bit out j || b) (sym (any_turn 61 left t r h.small l less (to_be j))) ∙ h.states j;
+              ∙ ap (λ (b : Bool). has_bit out j || b) (sym (any_turn 61 left t r h.small (record { least = l; others = less; fewer = falls }) (to_be j))) ∙ h.states j;
           counted = subst (Filled to out' (new_count linked more before active from counts₀) counts₀) (sym ec)
               (fill_if to out out' t (new_count linked more before active from counts t) (new_count linked more before active from counts₀) (reached before active t) counts₀ counts h.counted e here roomC
               (ap (λ (x : ℕ). min x (2 ^ 63)) (fold_same 0 ◌+◌ (has_bit m) (has_bit m) (weighted linked more t (cell counts from)) (weighted linked more t (cell counts₀ from)) 61 (λ i k. refl)
@@ -99,4 +99,4 @@ module _ (linked : Bool) (more before credits : List ℕ) (from to active holds 
       where
         states : (j : ℕ) → has_bit out j ≡ (has_bit holds j && reached before active j)
         states j =
-            sym (ap (λ (b : Bool). has_bit out j || b) (walk_end false ◌||◌ (λ i. reached before active i && eqb i j) 61 left z) ∙ or-false (has_bit out j)) ∙ h.states j
+            sym (ap (λ (b : Bool). has_bit out j || b) (walk_end false ◌||◌ (λ i. reached before active i && eqb i j) 61 left (λ i. ap (λ (m : ℕ). has_bit m i) z ∙ has_none i)) ∙ or-false (has_bit out j)) ∙ h.states j

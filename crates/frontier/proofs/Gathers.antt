@@ -4,6 +4,7 @@ use Rattle.std.proofs.Common.{◌≡◌, ℕ, ◌+◌, ◌^◌, ◌<◌, ◌≤�
 use Rattle.basics.specs.Folds.{sum_if, Less}
 use Rattle.basics.proofs.Folds.{fold_same}
 use Rattle.bits.specs.Bits.{has_bit, Least}
+use Rattle.bits.proofs.Laws.{has_none}
 use Rattle.bits.proofs.Walk.{sum_turn, most_turn, walk_end}
 use Rattle.frontier.specs.Rows.{count_of, most_of, weighted}
 
@@ -21,8 +22,8 @@ module _ (v w : ℕ → ℕ) (members : ℕ) where
     pub gathering_on : (t r count' most' : ℕ) → Least left t → Less (has_bit left) t (has_bit r) → r < left → count' ≡ min (count + v t) (2 ^ 63) → most' ≡ max most (w t)
         → Gathering v w members r count' most'
     gathering_on t r count' most' l less falls c m =
-        let sum = sum_turn 61 left t r h.small l less v in
-        let greatest = most_turn 61 left t r h.small l less w in
+        let sum = sum_turn 61 left t r h.small (record { least = l; others = less; fewer = falls }) v in
+        let greatest = most_turn 61 left t r h.small (record { least = l; others = less; fewer = falls }) w in
         let counted = h.counted in
         let marked = h.marked in
         record { small = omega (arith, h.small); cut = omega arith; counted = omega arith; marked = omega arith }
@@ -32,7 +33,8 @@ module _ (v w : ℕ → ℕ) (members : ℕ) where
         let cut = h.cut in
         let counted = h.counted in
         let marked = h.marked in
-        omega (arith, walk_end 0 ◌+◌ v 61 left z, walk_end 0 max w 61 left z)
+        let none : (i : ℕ) → has_bit left i ≡ false = λ i. ap (λ (m : ℕ). has_bit m i) z ∙ has_none i in
+        omega (arith, walk_end 0 ◌+◌ v 61 left none, walk_end 0 max w 61 left none)
 
 -- a number that was cut already
 pub cut_sum : (c a x : ℕ) → min (a + min x c) c ≡ min (a + x) c

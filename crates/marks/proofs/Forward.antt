@@ -35,6 +35,9 @@ use Rattle.frontier.specs.Rows.{cell, count_of, most_of, arriving, weight, weigh
 use Rattle.marks.specs.Answers.{best_of, Row, links_of_tables, Summed}
 use Rattle.marks.proofs.Values.{sum_cut, sum_times, best_added}
 
+no_members : (m : ℕ) → m ≡ 0 → (i : ℕ) → has_bit m i ≡ false
+no_members m z i = ap (λ (x : ℕ). has_bit x i) z ∙ has_none i
+
 -- ---- one letter on
 
 module _ (g : Graph) (bounded : Bounded g) (b : ℕ) (before : List ℕ) (active holds r : ℕ) (follows : (u i : ℕ) → next g u i ≡ has_bit (get_or before i 0) u)
@@ -64,7 +67,7 @@ module _ (g : Graph) (bounded : Bounded g) (b : ℕ) (before : List ℕ) (active
       (λ u l. refl) (λ u l e. fold_through none join none join (act u) (z u) (k u) (step g u b) (f u) n)
       ∙ fold_swap none join right comm assoc (has_bit active) (has_bit holds) (λ u. step g u b) (λ i. has_bit (arriving before active i)) meets (λ u i. act u (f u i)) 61 n
       ∙ fold_where none join right (has_bit holds) (λ i. ltb 0 (arriving before active i)) (has_bit r) here here states (λ i e. refl)
-      (λ i e. let l = ltb-false 0 (arriving before active i) e in walk_end none join (λ u. act u (f u i)) 61 (arriving before active i) (omega arith)) n
+      (λ i e. let l = ltb-false 0 (arriving before active i) e in walk_end none join (λ u. act u (f u i)) 61 (arriving before active i) (no_members (arriving before active i) (omega arith))) n
       ∙ sym (fold_longer none join (has_bit r) here n 61 (omega arith) beyond)
     where
       n : ℕ
@@ -213,7 +216,7 @@ row_stop g s t from active counts best z row = record {
 }
   where
     none : {A : Type 0} (n : A) (join : A → A → A) (f h : ℕ → A) → fold_if n join (has_bit active) f 61 ≡ fold_if n join (has_bit active) h 61
-    none n join f h = walk_end n join f 61 active z ∙ sym (walk_end n join h 61 active z)
+    none n join f h = walk_end n join f 61 active (no_members active z) ∙ sym (walk_end n join h 61 active (no_members active z))
 
 -- the set of a row has the states that are possible
 module _ (g : Graph) (s : List ℕ) (from active : ℕ) (counts best : List ℕ) (small : active < 2 ^ 61) (row : Row g s from active counts best) where
@@ -273,7 +276,7 @@ module _ (g : Graph) (s : List ℕ) (from active lasts : ℕ) (counts best : Lis
 
   -- a count that is not 0 has a state that is counted
   some_end : (count ≡ 0 → ⊥) → 0 < ending
-  some_end d = ⊎_elim (λ l. let z : ending ≡ 0 = omega arith in absurd (d (ap (λ (x : ℕ). min x (2 ^ 63)) (walk_end 0 ◌+◌ (cell counts from) 61 ending z)))) (λ l. l) (le_or_lt ending 0)
+  some_end d = ⊎_elim (λ l. let z : ending ≡ 0 = omega arith in absurd (d (ap (λ (x : ℕ). min x (2 ^ 63)) (walk_end 0 ◌+◌ (cell counts from) 61 ending (no_members ending z))))) (λ l. l) (le_or_lt ending 0)
 
   greatest_low : greatest ≤ 18 * length s
   greatest_low = sums_low g s from active counts best row ending (λ u e. (both_parts u e).0)

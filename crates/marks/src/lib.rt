@@ -11,12 +11,10 @@ ghost use Rattle.marks.specs.Answers.{mark_of_sum, Answered, TablesSummed};
 use frontier::Sum;
 use graph::Built;
 
-// What marking gives: the refusal, or 0 and the number of readings, 2^63 where it is that or more, the most credit that one
-// earns, which may be below zero, 0 where there is none, and how many letters were taken: up to and with the first after which no
-// state is possible, or all. By a built pattern no answer is refused.
+// What marking gives: the number of readings, 2^63 where it is that or more, the most credit that one earns, which may be below
+// zero, 0 where there is none, and how many letters were taken: up to and with the first after which no state is possible, or all.
 #[derive(Clone, Copy)]
 pub struct Marked {
-    pub refusal: u8,
     pub count: u64,
     pub mark: i32,
     pub taken: u32,
@@ -26,7 +24,7 @@ pub struct Marked {
 // table of the links beyond the first; it is read only where `b.doubled` says that there is one.
 pub fn mark(b: Built, more: &[u8], answer: &[u8]) -> Marked
     requires { Bounded (graph_of_built b more.now) × (b.doubled ≡ false → SingleLinks (graph_of_built b more.now)) × (length more.now ≡ 3721) × (length answer.now ≤ 4096) }
-    ensures { (result.refusal ≡ 0) × Answered (graph_of_built b more.now) answer.now result.count result.mark × (result.taken ≡ letters_taken (graph_of_built b more.now) answer.now) }
+    ensures { Answered (graph_of_built b more.now) answer.now result.count result.mark × (result.taken ≡ letters_taken (graph_of_built b more.now) answer.now) }
 {
     let follow = b.follow;
     let before = columns::states_before(&follow, b.positions);
@@ -50,7 +48,6 @@ pub fn mark(b: Built, more: &[u8], answer: &[u8]) -> Marked
     let mark = mark_of_sum(sum, answer.len());
     let taken = end.taken as u32;
     Marked {
-        refusal: 0,
         count: sum.count,
         mark: mark,
         taken: taken,

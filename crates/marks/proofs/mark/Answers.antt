@@ -1,5 +1,5 @@
 -- The tables show the pattern's graph, and what holds of the one holds of the other. Assumes nothing.
-use mathlib.Core.Path.{◌≡◌, refl, sym, ◌∙◌, subst}
+use mathlib.Core.Path.{◌≡◌, sym, ◌∙◌, subst}
 use Prim.Native.Nat.{ℕ}
 use native.Mathlib.Omega.{arith}
 use mir.Val.{Fits}
@@ -68,4 +68,4 @@ returns c =
     subst (λ (g : Graph). Summed g c.args.answer.now c.run-end.result.sum.count c.run-end.result.sum.most × (c.run-end.result.taken ≡ letters_taken g c.args.answer.now)) same
     (c.run-end.ensures b.positions (subst Bounded (sym same) c.requires.0)) in
     let w = summed in
-    (refl, subst (Answered _ _ _) (sym (to_z-of_z {w = w32} (search rules) ∙ c.mark_of_sum-mark.ensures)) w.0.answered, w.1)
+    (subst (Answered _ _ _) (sym (to_z-of_z {w = w32} (search rules) ∙ c.mark_of_sum-mark.ensures)) w.0.answered, w.1)
