@@ -72,11 +72,11 @@ fn one(good: bool, code: u8, at: usize) -> Named
 fn every(at: usize) -> Named
     ensures { (s : List ℕ) (from : ℕ) (R : Read) → UpToCredit s from at R true [] → ReadsNamed s from R result }
 {
-    let none = letters::empty();
+    let none = LetterSet::empty();
     Named {
         good: true,
         at: at,
-        set: letters::complement(none),
+        set: none.complement(),
         reversed: false,
     }
 }
@@ -110,7 +110,7 @@ fn with_credit(s: &[u8], n: Named) -> Lettered
     ensures { (from : ℕ) (R : Read) → ReadsNamed s.now from R n → ReadsAtom s.now from R result }
 {
     let set = n.set;
-    let hollow = letters::is_empty(set);
+    let hollow = set.is_empty();
     let c = credit(s, n.at);
     Lettered {
         good: n.good & c.good,

@@ -26,7 +26,7 @@ pub fn class(s: &[u8], at: usize) -> Named
     }
     let n = items(s, at + 1);
     let set = n.set;
-    let others = letters::complement(set);
+    let others = set.complement();
     Named {
         good: n.good,
         at: n.at,
@@ -39,7 +39,7 @@ pub fn class(s: &[u8], at: usize) -> Named
 fn items(s: &[u8], at: usize) -> Named
     ensures { (f : ℕ) → length s.now - at < f → ReadsItems s.now at (items_from f [] (drop at s.now)) result }
 {
-    let mut set = letters::empty();
+    let mut set = LetterSet::empty();
     let mut any = false;
     let mut reversed = false;
     let mut t = at;
@@ -54,7 +54,7 @@ fn items(s: &[u8], at: usize) -> Named
             };
         }
         let more = ranges::range(i.lo, i.hi);
-        set = letters::union(set, more);
+        set = set.union(more);
         any = true;
         reversed = reversed | (i.hi < i.lo);
         t = i.at;

@@ -34,8 +34,8 @@ pub fn holders_of(sets: [LetterSet; 61], positions: usize) -> [u64; 256]
     let mut i: usize = 0;
     while i <= positions {
         let mut s = sets[i];
-        if letters::is_wide(s) {
-            s = letters::complement(s);
+        if s.is_wide() {
+            s = s.complement();
             wide = bits::with(wide, i);
         }
         enter_letters(&mut table, s, i);
@@ -66,9 +66,9 @@ fn enter_letters(table: &mut [u64], members: LetterSet, j: usize)
     ensures { Entered (has_letter members) j table.old table.new }
 {
     let mut left = members;
-    while !letters::is_empty(left) {
-        let x = letters::lowest(left) as usize;
+    while !left.is_empty() {
+        let x = left.lowest() as usize;
         table[x] = bits::with(table[x], j);
-        left = letters::rest(left);
+        left = left.rest();
     }
 }

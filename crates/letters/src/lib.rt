@@ -8,6 +8,8 @@ ghost use Rattle.alphabet.specs.Alphabet.{is_letter};
 ghost use Rattle.letters.specs.LetterSet.{in_slot, has_slot, slot_of, code_at, has_letter, Some, LeastLetter, is_wide, weight};
 ghost use Rattle.letters.specs.Order.{in_range, small, capital, digit, first_letter};
 
+use bits::NumberSet;
+
 // A set has 192 slots, a bit each: 0 to 63 are those of `low`, then come those of `middle` and of `high`. The codes 32 to 127 have the
 // slots 0 to 95, and 160 to 255 have 96 to 191. All of these are letters but 127, slot 95: the functions that make a set
 // leave it out. Besides this crate only `ranges` and `set_table` use the three fields.
@@ -26,172 +28,187 @@ const FIRST: u8 = 32;
 
 const FIRST_HIGH: u8 = 160;
 
-// The empty set.
-pub fn empty() -> LetterSet
-    ensures { (c : ℕ) → has_letter result c ≡ false }
-{
-    LetterSet {
-        low: 0,
-        middle: 0,
-        high: 0,
-    }
-}
-
-// Is the code in the set: false for a code that has no slot.
-pub fn has(s: LetterSet, code: u8) -> bool
-    ensures { result ≡ has_letter s code }
-{
-    if code < FIRST {
-        return false;
-    }
-    if code < 128 {
-        return has_at(s, (code - 32) as usize);
-    }
-    if code < FIRST_HIGH {
-        return false;
-    }
-    has_at(s, (code - 64) as usize)
-}
-
-// Is the slot's code in the set.
-fn has_at(s: LetterSet, slot: usize) -> bool
-    requires { slot < 192 }
-    ensures { result ≡ in_slot s slot }
-{
-    if slot < 64 {
-        return bits::has(s.low, slot);
-    }
-    if slot < 128 {
-        return bits::has(s.middle, slot - 64);
-    }
-    bits::has(s.high, slot - 128)
-}
-
-// The letters of s and those of t.
-pub fn union(s: LetterSet, t: LetterSet) -> LetterSet
-    ensures { (c : ℕ) → has_letter result c ≡ (has_letter s c || has_letter t c) }
-{
-    LetterSet {
-        low: s.low | t.low,
-        middle: s.middle | t.middle,
-        high: s.high | t.high,
-    }
-}
-
-// The letters of s that are in t.
-pub fn intersection(s: LetterSet, t: LetterSet) -> LetterSet
-    ensures { (c : ℕ) → has_letter result c ≡ (has_letter s c && has_letter t c) }
-{
-    LetterSet {
-        low: s.low & t.low,
-        middle: s.middle & t.middle,
-        high: s.high & t.high,
-    }
-}
-
-// All letters: every slot but that of 127, bit 31 of `middle`.
-pub fn all() -> LetterSet
-    ensures { (c : ℕ) → has_letter result c ≡ is_letter c }
-{
-    LetterSet {
-        low: FULL,
-        middle: 0xffff_ffff_7fff_ffff,
-        high: FULL,
-    }
-}
-
-// The letters that are not in s.
-pub fn complement(s: LetterSet) -> LetterSet
-    ensures { (c : ℕ) → has_letter result c ≡ (is_letter c && not (has_letter s c)) }
-{
-    let others = LetterSet {
-        low: !s.low,
-        middle: !s.middle,
-        high: !s.high,
-    };
-    intersection(all(), others)
-}
-
-// Has the set no letter.
-pub fn is_empty(s: LetterSet) -> bool
-    ensures { (result ≡ true → (c : ℕ) → has_letter s c ≡ false) × (result ≡ false → Some s) }
-{
-    if s.low != 0 {
-        return false;
-    }
-    if s.middle != 0 {
-        return false;
-    }
-    s.high == 0
-}
-
-// Has the set all letters from 192 on. Such a set is most often one of nearly all letters, and sooner told by those that it lacks.
-pub fn is_wide(s: LetterSet) -> bool
-    ensures { result ≡ is_wide s }
-{
-    s.high == FULL
-}
-
-// The lowest letter of a set that is not empty.
-pub fn lowest(s: LetterSet) -> u8
-    requires { Some s }
-    ensures { LeastLetter s result }
-{
-    if s.low != 0 {
-        return code_at(bits::lowest(s.low));
-    }
-    if s.middle != 0 {
-        return code_at(64 + bits::lowest(s.middle));
-    }
-    code_at(128 + bits::lowest(s.high))
-}
-
-// All letters but the lowest of a set that is not empty. The weight falls, and is the measure of a loop that takes one
-// letter at a time.
-pub fn rest(s: LetterSet) -> LetterSet
-    requires { Some s }
-    ensures { (weight result < weight s) × ((t : ℕ) → LeastLetter s t → Less (has_letter s) t (has_letter result)) }
-{
-    if s.low != 0 {
-        return LetterSet {
-            low: bits::rest(s.low),
-            middle: s.middle,
-            high: s.high,
-        };
-    }
-    if s.middle != 0 {
-        return LetterSet {
+impl LetterSet {
+    // The empty set.
+    pub fn empty() -> LetterSet
+        ensures { (c : ℕ) → has_letter result c ≡ false }
+    {
+        LetterSet {
             low: 0,
-            middle: bits::rest(s.middle),
-            high: s.high,
-        };
+            middle: 0,
+            high: 0,
+        }
     }
-    LetterSet {
-        low: 0,
-        middle: 0,
-        high: bits::rest(s.high),
+
+    // Is the code in the set: false for a code that has no slot.
+    pub fn has(self, code: u8) -> bool
+        ensures { result ≡ has_letter self code }
+    {
+        if code < FIRST {
+            return false;
+        }
+        if code < 128 {
+            return self.has_at((code - 32) as usize);
+        }
+        if code < FIRST_HIGH {
+            return false;
+        }
+        self.has_at((code - 64) as usize)
+    }
+
+    // Is the slot's code in the set.
+    fn has_at(self, slot: usize) -> bool
+        requires { slot < 192 }
+        ensures { result ≡ in_slot self slot }
+    {
+        if slot < 64 {
+            return bits::has(self.low, slot);
+        }
+        if slot < 128 {
+            return bits::has(self.middle, slot - 64);
+        }
+        bits::has(self.high, slot - 128)
+    }
+
+    // The letters of both.
+    pub fn union(self, other: LetterSet) -> LetterSet
+        ensures { (c : ℕ) → has_letter result c ≡ (has_letter self c || has_letter other c) }
+    {
+        LetterSet {
+            low: self.low | other.low,
+            middle: self.middle | other.middle,
+            high: self.high | other.high,
+        }
+    }
+
+    // The letters that are in the other set too.
+    pub fn intersection(self, other: LetterSet) -> LetterSet
+        ensures { (c : ℕ) → has_letter result c ≡ (has_letter self c && has_letter other c) }
+    {
+        LetterSet {
+            low: self.low & other.low,
+            middle: self.middle & other.middle,
+            high: self.high & other.high,
+        }
+    }
+
+    // All letters: every slot but that of 127, bit 31 of `middle`.
+    pub fn all() -> LetterSet
+        ensures { (c : ℕ) → has_letter result c ≡ is_letter c }
+    {
+        LetterSet {
+            low: FULL,
+            middle: 0xffff_ffff_7fff_ffff,
+            high: FULL,
+        }
+    }
+
+    // The letters that are not in the set.
+    pub fn complement(self) -> LetterSet
+        ensures { (c : ℕ) → has_letter result c ≡ (is_letter c && not (has_letter self c)) }
+    {
+        let others = LetterSet {
+            low: !self.low,
+            middle: !self.middle,
+            high: !self.high,
+        };
+        LetterSet::all().intersection(others)
+    }
+
+    // Has the set no letter.
+    pub fn is_empty(self) -> bool
+        ensures { (result ≡ true → (c : ℕ) → has_letter self c ≡ false) × (result ≡ false → Some self) }
+    {
+        if self.low != 0 {
+            return false;
+        }
+        if self.middle != 0 {
+            return false;
+        }
+        self.high == 0
+    }
+
+    // Has the set all letters from 192 on. Such a set is most often one of nearly all letters, and sooner told by those that it lacks.
+    pub fn is_wide(self) -> bool
+        ensures { result ≡ is_wide self }
+    {
+        self.high == FULL
+    }
+
+    // The lowest letter of a set that is not empty.
+    pub fn lowest(self) -> u8
+        requires { Some self }
+        ensures { LeastLetter self result }
+    {
+        if self.low != 0 {
+            return code_at(bits::lowest(self.low));
+        }
+        if self.middle != 0 {
+            return code_at(64 + bits::lowest(self.middle));
+        }
+        code_at(128 + bits::lowest(self.high))
+    }
+
+    // All letters but the lowest of a set that is not empty. The weight falls, and is the measure of a loop that takes one
+    // letter at a time.
+    pub fn rest(self) -> LetterSet
+        requires { Some self }
+        ensures { (weight result < weight self) × ((t : ℕ) → LeastLetter self t → Less (has_letter self) t (has_letter result)) }
+    {
+        if self.low != 0 {
+            return LetterSet {
+                low: bits::rest(self.low),
+                middle: self.middle,
+                high: self.high,
+            };
+        }
+        if self.middle != 0 {
+            return LetterSet {
+                low: 0,
+                middle: bits::rest(self.middle),
+                high: self.high,
+            };
+        }
+        LetterSet {
+            low: 0,
+            middle: 0,
+            high: bits::rest(self.high),
+        }
+    }
+
+    // The letter shown of a set that is not empty and holds letters only: the first in the order a to z, A to Z, 0 to 9, then the
+    // others by code. Where the set has nothing of the three ranges, its lowest letter is one of the others.
+    pub fn first_in_order(self) -> u8
+        requires { Some self × ((c : ℕ) → has_letter self c ≡ true → is_letter c ≡ true) }
+        ensures { result ≡ first_letter (has_letter self) }
+    {
+        let small = self.intersection(small_letters());
+        if !small.is_empty() {
+            return small.lowest();
+        }
+        let capital = self.intersection(capital_letters());
+        if !capital.is_empty() {
+            return capital.lowest();
+        }
+        let digit = self.intersection(digits());
+        if !digit.is_empty() {
+            return digit.lowest();
+        }
+        self.lowest()
     }
 }
 
-// The letter shown of a set that is not empty and holds letters only: the first in the order a to z, A to Z, 0 to 9, then the
-// others by code. Where the set has nothing of the three ranges, its lowest letter is one of the others.
-pub fn first_in_order(s: LetterSet) -> u8
-    requires { Some s × ((c : ℕ) → has_letter s c ≡ true → is_letter c ≡ true) }
-    ensures { result ≡ first_letter (has_letter s) }
-{
-    let small = intersection(s, small_letters());
-    if !is_empty(small) {
-        return lowest(small);
+impl NumberSet for LetterSet {
+    ghost has = { has_letter };
+
+    ghost weight = { weight };
+
+    fn take_least(self) -> Option<(usize, LetterSet)> {
+        if self.is_empty() {
+            return None;
+        }
+        Some((self.lowest() as usize, self.rest()))
     }
-    let capital = intersection(s, capital_letters());
-    if !is_empty(capital) {
-        return lowest(capital);
-    }
-    let digit = intersection(s, digits());
-    if !is_empty(digit) {
-        return lowest(digit);
-    }
-    lowest(s)
 }
 
 // The letters a to z: slots 65 to 90.

@@ -22,7 +22,7 @@ pub fn range(a: u8, b: u8) -> LetterSet
         middle: word(from, to, 64),
         high: word(from, to, 128),
     };
-    letters::intersection(letters::all(), codes)
+    LetterSet::all().intersection(codes)
 }
 
 // The letter alone, and the empty set for a code that is no letter.
@@ -30,7 +30,7 @@ pub fn only(code: u8) -> LetterSet
     ensures { (c : ℕ) → has_letter result c ≡ (is_letter c && (leb code c && leb c code)) }
 {
     if !alphabet::is_letter(code) {
-        return letters::empty();
+        return LetterSet::empty();
     }
     let slot = letters::slot_of(code);
     LetterSet {

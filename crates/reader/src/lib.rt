@@ -7,6 +7,7 @@ ghost use Rattle.links.specs.Rows.{NoneCounted, Room};
 ghost use Rattle.reader.specs.Read.{Reads, Refuses, Builds};
 
 use graph::Built;
+use letters::LetterSet;
 use parts::ParsedRows;
 
 // The longest pattern, in bytes, and the most positions.
@@ -61,7 +62,7 @@ pub fn read(s: &[u8], more: &mut [u8]) -> ReadPattern
 fn refused(refusal: u8) -> ReadPattern
     ensures { Refuses refusal result }
 {
-    let none = letters::empty();
+    let none = LetterSet::empty();
     let sets = [none; 61];
     let rows = [0u64; 61];
     let credits = [9u8; 61];

@@ -38,7 +38,7 @@ pub fn sets(table: &[u64], n: usize) -> [LetterSet; 61]
     requires { (length table.now ≡ table_size) × (n ≤ 60) }
     ensures { (i c : ℕ) → has_letter (set_at result i) c ≡ (leb i n && has_letter (set_in table.now i) c) }
 {
-    let none = letters::empty();
+    let none = LetterSet::empty();
     let mut out = [none; 61];
     let mut i = 0;
     while i <= n {

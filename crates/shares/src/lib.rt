@@ -37,7 +37,7 @@ fn share(s: LetterSet, t: LetterSet) -> bool
     requires { (c : ℕ) → has_letter s c ≡ true → is_letter c ≡ true }
     ensures { result ≡ some_letter (λ c. has_letter s c && has_letter t c) }
 {
-    !letters::is_empty(letters::intersection(s, t))
+    !s.intersection(t).is_empty()
 }
 
 // The positions to which two links or more lead from u, for every state u up to `positions`, in rows: those of its row of `follow`

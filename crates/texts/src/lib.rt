@@ -86,7 +86,7 @@ fn letter(s: LetterSet, t: LetterSet) -> u8
     requires { ((c : ℕ) → has_letter s c ≡ true → is_letter c ≡ true) × (some_letter (λ c. has_letter s c && has_letter t c) ≡ true) }
     ensures { result ≡ first_letter (λ c. has_letter s c && has_letter t c) }
 {
-    letters::first_in_order(letters::intersection(s, t))
+    s.intersection(t).first_in_order()
 }
 
 // Where one path of a node is, of a pair the one at the greater position.

@@ -11,7 +11,7 @@ use Rattle.alphabet.specs.Alphabet.{is_letter}
 use Rattle.letters.specs.LetterSet.{has_slot, code_at}
 use Rattle.letters.proofs.Slots.{letter_slot, letter_at}
 use Rattle.letters.proofs.Sets.{by_words}
-use Rattle.letters.proofs.all.Goals as goal
+use Rattle.letters.proofs.LetterSet.all.Goals as goal
 
 -- a full word, of slots that are letters'
 full : (base i : ℕ) → i < 64 → base + i < 192 → (95 ≡ base + i → ⊥) → has_bit (2 ^ 64 - 1) i ≡ is_letter (code_at (base + i))

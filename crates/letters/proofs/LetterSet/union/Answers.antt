@@ -4,11 +4,11 @@ use mathlib.Core.Bool.{◌||◌}
 use lib.Bits.{bit_or}
 use Rattle.bits.proofs.Laws.{has_or}
 use Rattle.letters.proofs.Sets.{pointwise}
-use Rattle.letters.proofs.union.Goals as goal
+use Rattle.letters.proofs.LetterSet.union.Goals as goal
 
 pub returns : goal.returns
 returns c =
-    let s = c.args.s in
-    let t = c.args.t in
+    let s = c.args.self in
+    let t = c.args.other in
     pointwise ◌||◌ record { low = bit_or s.low t.low; middle = bit_or s.middle t.middle; high = bit_or s.high t.high } s t refl
     (has_or s.low t.low) (has_or s.middle t.middle) (has_or s.high t.high)

@@ -1,7 +1,7 @@
 -- The three words are empty. Assumes nothing.
 use mathlib.Core.Path.{refl}
 use Rattle.letters.proofs.Sets.{zero_none}
-use Rattle.letters.proofs.empty.Goals as goal
+use Rattle.letters.proofs.LetterSet.empty.Goals as goal
 
 pub returns : goal.returns
 returns c = zero_none record { low = 0; middle = 0; high = 0 } refl refl refl

@@ -10,7 +10,7 @@ use Rattle.letters.specs.LetterSet.{has_slot, code_at, in_slot, has_letter}
 use Rattle.letters.specs.declared.LetterSet.{LetterSet}
 use Rattle.letters.proofs.Slots.{letter_has}
 use Rattle.letters.proofs.Sets.{at_low, at_middle, at_high, code_in, by_words}
-use Rattle.letters.proofs.complement.Goals as goal
+use Rattle.letters.proofs.LetterSet.complement.Goals as goal
 
 -- a word complemented
 complemented : (s : LetterSet) (base w i : ℕ) → w < 2 ^ 64 → i < 64 → base + i < 192 → in_slot s (base + i) ≡ has_bit w i → has_bit (2 ^ 64 - 1 - w) i ≡ not (has_letter s (code_at (base + i)))
@@ -19,7 +19,7 @@ complemented s base w i f h l e =
 
 pub returns : goal.returns
 returns c k =
-    let s = c.args.s in
+    let s = c.args.self in
     let others : LetterSet = record { low = 2 ^ 64 - 1 - s.low; middle = 2 ^ 64 - 1 - s.middle; high = 2 ^ 64 - 1 - s.high } in
     let free : has_letter others k ≡ (has_slot k && not (has_letter s k))
     = by_words others (λ d. not (has_letter s d))

@@ -4,21 +4,21 @@ use Prim.Native.Nat.{◌+◌, ◌-◌}
 use native.Mathlib.Omega.{arith}
 use Rattle.letters.specs.LetterSet.{in_slot}
 use Rattle.letters.proofs.Sets.{at_low, at_middle, at_high}
-use Rattle.letters.proofs.has_at.Goals as goal
+use Rattle.letters.proofs.LetterSet.has_at.Goals as goal
 
 pub returns-then-slot-lt64 : goal.returns-then-slot-lt64
 returns-then-slot-lt64 c =
     let a = c.args in
-    c.has.ensures ∙ sym (at_low a.s a.slot (omega arith))
+    c.has.ensures ∙ sym (at_low a.self a.slot (omega arith))
 
 pub returns-then-slot-lt128 : goal.returns-then-slot-lt128
 returns-then-slot-lt128 c =
     let a = c.args in
     let e : a.slot ≡ 64 + (a.slot - 64) = omega arith in
-    c.has-then-slot-lt128.ensures ∙ sym (ap (in_slot a.s) e ∙ at_middle a.s (a.slot - 64) (omega arith))
+    c.has-then-slot-lt128.ensures ∙ sym (ap (in_slot a.self) e ∙ at_middle a.self (a.slot - 64) (omega arith))
 
 pub returns : goal.returns
 returns c =
     let a = c.args in
     let e : a.slot ≡ 128 + (a.slot - 128) = omega arith in
-    c.has-2.ensures ∙ sym (ap (in_slot a.s) e ∙ at_high a.s (a.slot - 128))
+    c.has-2.ensures ∙ sym (ap (in_slot a.self) e ∙ at_high a.self (a.slot - 128))

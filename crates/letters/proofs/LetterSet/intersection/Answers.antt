@@ -4,11 +4,11 @@ use mathlib.Core.Bool.{◌&&◌}
 use lib.Bits.{bit_and}
 use Rattle.bits.proofs.Laws.{has_and}
 use Rattle.letters.proofs.Sets.{pointwise}
-use Rattle.letters.proofs.intersection.Goals as goal
+use Rattle.letters.proofs.LetterSet.intersection.Goals as goal
 
 pub returns : goal.returns
 returns c =
-    let s = c.args.s in
-    let t = c.args.t in
+    let s = c.args.self in
+    let t = c.args.other in
     pointwise ◌&&◌ record { low = bit_and s.low t.low; middle = bit_and s.middle t.middle; high = bit_and s.high t.high } s t refl
     (has_and s.low t.low) (has_and s.middle t.middle) (has_and s.high t.high)
