@@ -34,22 +34,15 @@ use Rattle.verdict.proofs.Parting.{Parting, short_parting}
 use Rattle.verdict.proofs.Pivots.{first_pivot_is, back_to, Loops, parting_loops}
 use Rattle.verdict.proofs.Shows.{both_last, parting_steady, loops_runaway}
 use Rattle.search.specs.declared.Goal.{Goal}
-use Rattle.vetting.specs.declared.Vetted.{Vetted}
 use Rattle.nodes.specs.Nodes.{left_of, right_of, Step, single, beside}
 use Rattle.search.specs.Search.{is_goal}
 use Rattle.shares.specs.Tables.{Rows, Doubles, Shares, Within, is_doubled, NoneDoubled, held}
 use Rattle.texts.specs.Texts.{letter_at, Showable, ShownText, Shown}
-use Rattle.vetting.specs.Answers.{Vettable, vetted, Judged}
+use Rattle.vetting.specs.Answers.{Vettable}
 use Rattle.nodes.proofs.Nodes.{left_low, right_low, sides}
 use Rattle.search.proofs.Moves.{shares_swap}
 use Rattle.search.proofs.Found.{goal_low, both_in, parted, short_nodes, shown_codes, some_parts, none_parts, letter_of, chain_route, route_chain}
 use Rattle.search.proofs.Pivoting.{only_at, equal_swap}
-
--- ---- what is returned
-
--- a verdict whose texts are shown
-pub judges : {g : Graph} {e e' : List ℕ} {v l m n : ℕ} {r : Vetted} → r ≡ vetted g.positions v l m n → Vets g e e' v l m n → Judged g e e' r
-judges {g} {e} {e'} is h = subst (Judged g e e') (sym is) (record { refusal = refl; positions = refl; vets = h })
 
 -- ---- texts one after the other
 

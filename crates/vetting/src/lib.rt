@@ -6,7 +6,7 @@ ghost use Rattle.std.specs.Prelude.{◌≡◌, ◌≤◌, ◌<◌, length};
 ghost use Rattle.graph.specs.Built.{graph_of_built};
 ghost use Rattle.verdict.specs.Verdict.{first_pivot};
 ghost use Rattle.shares.specs.Tables.{Doubles, Shares};
-ghost use Rattle.vetting.specs.Answers.{Vettable, vetted, Judged};
+ghost use Rattle.vetting.specs.Answers.{Vettable, Reported, Judged};
 
 use graph::Built;
 use search::Goal;
@@ -14,17 +14,20 @@ use search::Goal;
 // What the search for a pivot gives where there is none.
 const NO_PIVOT: usize = 0;
 
-// What vetting gives: the refusal, or 0 and the verdict (0 single, 1 steady, 2 runaway), the number of positions, and the
-// lengths of the texts at the beginning of the evidence: of a steady pattern a text with two readings; of a runaway one a way to
-// its first pivot, a text with two loops there, and a way to an end. A built pattern is never refused.
-#[derive(Clone, Copy)]
+// A verdict, with the lengths of the texts at the beginning of the evidence that show it: of a steady pattern a text with two
+// readings; of a runaway one a way to its first pivot, a text with two loops there, and a way to an end.
+#[derive(Clone, Copy, PartialEq, Eq, Debug)]
+pub enum Verdict {
+    Single,
+    Steady { text: u32 },
+    Runaway { x: u32, y: u32, z: u32 },
+}
+
+// What vetting gives. A built pattern is never refused.
+#[derive(Clone, Copy, PartialEq, Eq, Debug)]
 pub struct Vetted {
-    pub refusal: u8,
-    pub verdict: u8,
     pub positions: u8,
-    pub first: u32,
-    pub second: u32,
-    pub third: u32,
+    pub verdict: Verdict,
 }
 
 // The verdict of a pattern, with its evidence; `more` is the table of its links beyond the first. 4,096 bytes and 4,096 numbers are
@@ -39,10 +42,15 @@ pub fn vet(b: Built, more: &[u8], evidence: &mut [u8], scratch: &mut [u16]) -> V
     let mut shares = [0u64; 61];
     shares::share_rows(sets, &mut shares, b.positions);
     let q = search::first_pivot(&follow, &doubles, &shares, &mut *scratch, b.positions);
-    if q == NO_PIVOT {
-        return single_or_steady(b, more, &doubles, &shares, &mut *evidence, &mut *scratch);
+    let verdict = if q == NO_PIVOT {
+        single_or_steady(b, more, &doubles, &shares, &mut *evidence, &mut *scratch)
+    } else {
+        runaway(b, more, &doubles, &shares, &mut *evidence, &mut *scratch, q)
+    };
+    Vetted {
+        positions: b.positions as u8,
+        verdict,
     }
-    runaway(b, more, &doubles, &shares, &mut *evidence, &mut *scratch, q)
 }
 
 // Of a pattern without a pivot, whose links `more` counts: steady where two readings part and both come to an end, else single.
@@ -53,9 +61,9 @@ fn single_or_steady<'a>(
     shares: &'a [u64; 61],
     evidence: &mut [u8],
     scratch: &mut [u16],
-) -> Vetted
+) -> Verdict
     requires { Vettable b more.now × Doubles (graph_of_built b more.now) doubles.now × Shares (graph_of_built b more.now) shares.now × (first_pivot (graph_of_built b more.now) ≡ 0) × (4096 ≤ length evidence.old) × (4096 ≤ length scratch.old) }
-    ensures { Judged (graph_of_built b more.now) evidence.old evidence.new result }
+    ensures { Reported (graph_of_built b more.now) evidence.old evidence.new result }
 {
     let follow = b.follow;
     let sets = b.letters;
@@ -75,9 +83,9 @@ fn single_or_steady<'a>(
         0,
     );
     if n == texts::NO_TEXT {
-        return judgement(b.positions, 0, 0, 0, 0);
+        return Verdict::Single;
     }
-    judgement(b.positions, 1, n, 0, 0)
+    Verdict::Steady { text: n as u32 }
 }
 
 // Of a pattern whose first pivot is q, and whose links `more` counts.
@@ -89,9 +97,9 @@ fn runaway<'a>(
     evidence: &mut [u8],
     scratch: &mut [u16],
     q: usize,
-) -> Vetted
+) -> Verdict
     requires { Vettable b more.now × Doubles (graph_of_built b more.now) doubles.now × Shares (graph_of_built b more.now) shares.now × (first_pivot (graph_of_built b more.now) ≡ q) × (0 < q) × (4096 ≤ length evidence.old) × (4096 ≤ length scratch.old) }
-    ensures { Judged (graph_of_built b more.now) evidence.old evidence.new result }
+    ensures { Reported (graph_of_built b more.now) evidence.old evidence.new result }
 {
     let follow = b.follow;
     let sets = b.letters;
@@ -142,20 +150,9 @@ fn runaway<'a>(
         q,
         x + y,
     );
-    judgement(b.positions, 2, x, y, z)
-}
-
-// A verdict with the lengths of its texts.
-fn judgement(positions: usize, verdict: u8, first: usize, second: usize, third: usize) -> Vetted
-    requires { (positions ≤ 60) × (first ≤ 4096) × (second ≤ 4096) × (third ≤ 4096) }
-    ensures { result ≡ vetted positions verdict first second third }
-{
-    Vetted {
-        refusal: 0,
-        verdict: verdict,
-        positions: positions as u8,
-        first: first as u32,
-        second: second as u32,
-        third: third as u32,
+    Verdict::Runaway {
+        x: x as u32,
+        y: y as u32,
+        z: z as u32,
     }
 }

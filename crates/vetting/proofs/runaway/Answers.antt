@@ -2,7 +2,7 @@
 -- to an end. Assumes nothing.
 use Prim.Native.Nat.{◌≤◌}
 use native.Mathlib.Omega.{arith}
-use Rattle.vetting.proofs.Answering.{judges, honest, honest_none, showable, Pivot, first_low, way_in_shown, way_in_short, way_out_shown, loops_shown, runaway_answer}
+use Rattle.vetting.proofs.Answering.{honest, honest_none, showable, Pivot, first_low, way_in_shown, way_in_short, way_out_shown, loops_shown, runaway_answer}
 use Rattle.vetting.proofs.runaway.Goals as goal
 
 pub only-here-requires : goal.only-here-requires
@@ -54,15 +54,10 @@ show-z-requires c =
       showable fit (honest_none fit),
     )
 
-pub judgement-requires : goal.judgement-requires
-judgement-requires c =
-    (c.requires.0.bounded.few, c.show-x.ensures.top, c.show-y.ensures.top, c.show-z.ensures.top)
-
 pub returns : goal.returns
 returns c =
     let pivot : Pivot c.requires.0 c.args.q c.only-here.result = record { is = c.requires.3; some = c.requires.4; only = c.only-here.ensures } in
     let fit = c.requires.0 in
     let at = pivot in
     let db = c.requires.1 in
-    judges c.judgement.ensures
     (runaway_answer fit at db c.requires.2 (way_in_shown fit at c.show-x.ensures) (loops_shown fit at db c.requires.2 c.show-y.ensures) (way_out_shown fit at c.show-z.ensures))

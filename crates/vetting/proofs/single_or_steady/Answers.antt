@@ -1,7 +1,6 @@
 -- The search for two readings that part and both come to an end decides between single and steady. Assumes nothing.
-use Prim.Native.Nat.{zero-le}
 use native.Mathlib.Omega.{arith}
-use Rattle.vetting.proofs.Answering.{judges, honest, showable, single_answer, steady_answer}
+use Rattle.vetting.proofs.Answering.{honest, showable, single_answer, steady_answer}
 use Rattle.vetting.proofs.single_or_steady.Goals as goal
 
 pub show-n-requires : goal.show-n-requires
@@ -9,16 +8,10 @@ show-n-requires c =
     let fit = c.requires.0 in
     (c.requires.5, omega arith, omega (arith, c.requires.4), fit.bounded.letters, showable fit (honest fit c.requires.2))
 
-pub judgement-requires : goal.judgement-requires
-judgement-requires c = (c.requires.0.bounded.few, zero-le, zero-le, zero-le)
-
 pub returns-then-n-eq-NO_TEXT : goal.returns-then-n-eq-NO_TEXT
 returns-then-n-eq-NO_TEXT c =
-    judges c.judgement.ensures (single_answer c.requires.0 c.requires.1 c.requires.2 c.requires.3 c.show-n.ensures (omega (arith, c.if-n-eq-NO_TEXT.true)))
-
-pub judgement-requires-2 : goal.judgement-requires-2
-judgement-requires-2 c = (c.requires.0.bounded.few, c.show-n.ensures.top, zero-le, zero-le)
+    single_answer c.requires.0 c.requires.1 c.requires.2 c.requires.3 c.show-n.ensures (omega (arith, c.if-n-eq-NO_TEXT.true))
 
 pub returns : goal.returns
 returns c =
-    judges c.judgement-2.ensures (steady_answer c.requires.0 c.requires.1 c.requires.2 c.requires.3 c.show-n.ensures (omega (arith, c.show-n.ensures.top, c.if-n-eq-NO_TEXT.false)))
+    steady_answer c.requires.0 c.requires.1 c.requires.2 c.requires.3 c.show-n.ensures (omega (arith, c.show-n.ensures.top, c.if-n-eq-NO_TEXT.false))
