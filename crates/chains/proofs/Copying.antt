@@ -79,12 +79,12 @@ module _ (q : Part) (n last : ℕ) (doubled : Bool) (rows more rows' more' : Lis
   row_here a b h =
       let back : a - w + w ≡ a = omega arith in
       ap (λ (i : ℕ). has_bit (get_or rows' i 0) b) (sym back)
-      ∙ c.copied.copied (a - w) (omega arith) (omega arith) b
-      ∙ ap (λ (s : ℕ). leb w b && (ltb b 64 && has_bit s (b - w))) (c.copied.below (a - w) (omega arith))
+      ∙ c.copied.copied 0 (a - w) (omega arith) (omega arith) b
+      ∙ ap (λ (s : ℕ). leb w b && (ltb b 64 && has_bit s (b - w))) (c.copied.below 0 (a - w) (omega arith))
 
   -- any other
   row_other : (a : ℕ) → (Here a → ⊥) → get_or rows' a 0 ≡ get_or rows a 0
-  row_other a d = ⊎_elim (λ h. c.copied.below a (omega arith)) (λ h. c.copied.above a (⊎_elim (λ l. absurd (d (omega arith))) (λ l. omega arith) (le_or_lt a (n + w + w)))) (le_or_lt a (n + w))
+  row_other a d = ⊎_elim (λ h. c.copied.below 0 a (omega arith)) (λ h. c.copied.above 0 a (⊎_elim (λ l. absurd (d (omega arith))) (λ l. omega arith) (le_or_lt a (n + w + w)))) (le_or_lt a (n + w))
 
   linked_here : (a b : ℕ) → Here a → has_bit (get_or rows' a 0) b ≡ ((kept a && kept b) && ltb 0 (links (n + w) q a b))
   linked_here a b h =
@@ -135,7 +135,7 @@ module _ (q : Part) (n last : ℕ) (doubled : Bool) (rows more rows' more' : Lis
       (λ d.
       let k = c.numbers d in
       let far : entry a b ≡ entry (a - w) (b - w) + 62 * w = omega arith in
-      ap (λ (i : ℕ). get_or more' i 0) far ∙ k.copied (entry (a - w) (b - w)) (omega arith) (omega arith) ∙ k.below (entry (a - w) (b - w)) (omega arith))
+      ap (λ (i : ℕ). get_or more' i 0) far ∙ k.copied 0 (entry (a - w) (b - w)) (omega arith) (omega arith) ∙ k.below 0 (entry (a - w) (b - w)) (omega arith))
       (λ d.
       ap (λ (t : List ℕ). get_or t (entry a b) 0) (c.none d) ∙ none_here a b (omega arith) (omega arith) h.0
       ∙ sym (f.single d (a - w) (b - w) (lt-ltb (a - w) 61 (omega arith)) (lt-ltb (b - w) 61 (omega arith)) (omega arith)))
@@ -148,12 +148,12 @@ module _ (q : Part) (n last : ℕ) (doubled : Bool) (rows more rows' more' : Lis
       let k = c.numbers e in
       ⊎_elim
       (λ h.
-      ⊎_elim (λ l. k.above (entry a b) (omega arith))
+      ⊎_elim (λ l. k.above 0 (entry a b) (omega arith))
       (λ l.
       let far : entry a b ≡ (entry a b - 62 * w) + 62 * w = omega arith in
-      ap (λ (t : ℕ). get_or more' t 0) far ∙ k.copied (entry a b - 62 * w) (omega arith) (omega arith) ∙ k.below (entry a b - 62 * w) (omega arith)
+      ap (λ (t : ℕ). get_or more' t 0) far ∙ k.copied 0 (entry a b - 62 * w) (omega arith) (omega arith) ∙ k.below 0 (entry a b - 62 * w) (omega arith)
       ∙ source (omega arith) (omega arith) ∙ sym (none_here a b i j (omega arith))) (le_or_lt (62 * (n + w + w) + 1) (entry a b)))
-      (λ h. k.below (entry a b) (omega arith)) (le_or_lt (62 * (n + w + 1)) (entry a b)))
+      (λ h. k.below 0 (entry a b) (omega arith)) (le_or_lt (62 * (n + w + 1)) (entry a b)))
       (λ e. ap (λ (t : List ℕ). get_or t (entry a b) 0) (c.none e))
     where
       source : 62 * (n + w + 1) ≤ entry a b → entry a b ≤ 62 * (n + w + w) → get_or more (entry a b - 62 * w) 0 ≡ 0

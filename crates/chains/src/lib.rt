@@ -63,7 +63,7 @@ fn next_rows(n: usize, doubled: bool, w: usize, rows: &mut [u64; 61], more: &mut
     let from = n - w + 1;
     copies::rows(rows, from, n + 1, w);
     if doubled {
-        copies::bytes(more, 62 * from, 62 * n + 1, 62 * w);
+        copies::entries(more, 62 * from, 62 * n + 1, 62 * w);
     }
 }
 

@@ -8,7 +8,6 @@ use native.Mathlib.Omega.{arith}
 use lib.ListN.{length, get_or, length-append, get_or-append, get_or-eq_default}
 use lib.Seq.{take_all, get_or-append-add}
 use Rattle.basics.proofs.Tests.{le_or_lt}
-use Rattle.basics.proofs.Lists.{within_any}
 use Rattle.letters.specs.LetterSet.{has_letter}
 use Rattle.letters.specs.declared.LetterSet.{LetterSet}
 use Rattle.copies.specs.Copies as Copies
@@ -98,19 +97,10 @@ pub stored_copies : (al xs : List Atom) (k : ℕ) (sets credits sets' credits' :
     → Stored (al ++ xs) sets credits → Stored (with al xs (suc k)) sets' credits'
 stored_copies al xs k sets credits sets' credits' some few long s c st = record { has = λ i. (fits i).has; credit = λ i. (fits i).credit; small = λ i. (fits i).small }
   where
-    -- within the table what stands for a missing entry plays no part, and past it it is the same
-    same : (i j : ℕ) → i < 61 → j < 61 → get_or credits' j 0 ≡ get_or credits' i 0 → get_or credits' j 9 ≡ get_or credits' i 9
-    same i j h l e = within_any credits' j 9 0 (omega (arith, c.size)) ∙ e ∙ within_any credits' i 0 9 (omega (arith, c.size))
-
-    kept : (i : ℕ) → get_or credits' i 0 ≡ get_or credits i 0 → get_or credits' i 9 ≡ get_or credits i 9
-    kept i e =
-        ⊎_elim (λ h. get_or-eq_default credits' 9 {n = i} (omega (arith, c.size)) ∙ sym (get_or-eq_default credits 9 {n = i} (omega arith)))
-        (λ h. within_any credits' i 9 0 (omega (arith, c.size)) ∙ e ∙ within_any credits i 0 9 (omega arith)) (le_or_lt 61 i)
-
     fits : (i : ℕ) → Fits (shown sets' credits' i) (atom_of (with al xs (suc k)) i)
     fits =
         let o = suc-mul k (length xs) in
         all_copies al xs Fits k few (shown sets credits) (shown sets' credits') (λ i. record { has = st.has i; credit = st.credit i; small = st.small i })
-        (λ i h t. (s.below i h t, kept i (c.below i h) t))
-        (λ i h l t. (s.copied i h l t, same i (i + length xs) (omega arith) (omega arith) (c.copied i h l) t))
-        (λ i h t. (s.above i h t, kept i (c.above i h) t))
+        (λ i h t. (s.below i h t, c.below 9 i h t))
+        (λ i h l t. (s.copied i h l t, c.copied 9 i h l t))
+        (λ i h t. (s.above i h t, c.above 9 i h t))

@@ -77,7 +77,7 @@ fn interval(
     }
     let end = n + 1 + (copies - 1) * w;
     set_table::repeat(sets, n + 1, end, w);
-    copies::bytes(credits, n + 1, end, w);
+    copies::entries(credits, n + 1, end, w);
     chains::chain(out, w, copies, i.lower, i.endless, rows, more)
 }
 

@@ -53,12 +53,12 @@ unfolding set_in
 repeats from to by before after w = record {
   size = w.size;
   copied = λ i a b k. record {
-    low = (ap (λ (j : ℕ). get_or after j 0) (low_far i) ∙ w.copied (3 * i + 0) (omega arith) (omega arith) ∙ ap (λ (j : ℕ). get_or after j 0) (add-zero (3 * i))) k;
-    middle = (ap (λ (j : ℕ). get_or after j 0) (far i 1) ∙ w.copied (3 * i + 1) (omega arith) (omega arith)) k;
-    high = (ap (λ (j : ℕ). get_or after j 0) (far i 2) ∙ w.copied (3 * i + 2) (omega arith) (omega arith)) k;
+    low = (ap (λ (j : ℕ). get_or after j 0) (low_far i) ∙ w.copied 0 (3 * i + 0) (omega arith) (omega arith) ∙ ap (λ (j : ℕ). get_or after j 0) (add-zero (3 * i))) k;
+    middle = (ap (λ (j : ℕ). get_or after j 0) (far i 1) ∙ w.copied 0 (3 * i + 1) (omega arith) (omega arith)) k;
+    high = (ap (λ (j : ℕ). get_or after j 0) (far i 2) ∙ w.copied 0 (3 * i + 2) (omega arith) (omega arith)) k;
   };
-  below = λ i a k. record { low = w.below (3 * i) (omega arith) k; middle = w.below (3 * i + 1) (omega arith) k; high = w.below (3 * i + 2) (omega arith) k };
-  above = λ i a k. record { low = w.above (3 * i) (omega arith) k; middle = w.above (3 * i + 1) (omega arith) k; high = w.above (3 * i + 2) (omega arith) k };
+  below = λ i a k. record { low = w.below 0 (3 * i) (omega arith) k; middle = w.below 0 (3 * i + 1) (omega arith) k; high = w.below 0 (3 * i + 2) (omega arith) k };
+  above = λ i a k. record { low = w.above 0 (3 * i) (omega arith) k; middle = w.above 0 (3 * i + 1) (omega arith) k; high = w.above 0 (3 * i + 2) (omega arith) k };
 }
   where
     low_far : (i : ℕ) → 3 * (i + by) ≡ (3 * i + 0) + 3 * by

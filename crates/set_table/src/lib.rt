@@ -30,7 +30,7 @@ pub fn repeat(table: &mut [u64], from: usize, to: usize, by: usize)
     requires { (0 < by) × (from ≤ to) × (to + by ≤ 61) × (length table.old ≡ table_size) }
     ensures { Repeats from to by table.old table.new }
 {
-    copies::words(table, 3 * from, 3 * to, 3 * by);
+    copies::entries(table, 3 * from, 3 * to, 3 * by);
 }
 
 // The sets of the entries 0 to n, and empty ones after them.

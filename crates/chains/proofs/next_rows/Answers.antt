@@ -5,7 +5,7 @@ use Rattle.chains.proofs.next_rows.Goals as goal
 
 pub returns-then-doubled : goal.returns-then-doubled
 returns-then-doubled c =
-    let numbers = c.bytes.ensures in
+    let numbers = c.entries.ensures in
     (record { copied = c.rows.ensures; numbers = λ d. numbers; none = λ d. absurd (true≢false (sym c.if-doubled.true ∙ d)); size = numbers.size }, c.rows.ensures.size ∙ c.requires.3)
 
 pub returns-else-doubled : goal.returns-else-doubled

@@ -90,8 +90,8 @@ overflow_add-n-3 c =
     let copies_are : (0 < c.how_many-copies.result) × (c.how_many-copies.result ≤ 255) = subst (λ (v : ℕ). (0 < v) × (v ≤ 255)) (sym c.how_many-copies.ensures) (many (bounds_of c.args.i) (fine)) in
     let enough : (0 < c.args.p.n - c.args.n) × (c.args.p.n + (c.how_many-copies.result - 1) * (c.args.p.n - c.args.n) ≤ 60) × (c.args.n + c.how_many-copies.result * (c.args.p.n - c.args.n) ≤ 60) = room c.args.n c.args.p c.how_many-copies.result c.requires.0 (copies_are).0 c.if-p-n.false in omega (arith, (enough).1, c.requires.0.on)
 
-pub bytes-requires : goal.bytes-requires
-bytes-requires c =
+pub entries-requires : goal.entries-requires
+entries-requires c =
     let fine : out_of_bounds (bounds_of c.args.i) ≡ false = sym c.out_of_bounds.ensures ∙ c.if-out_of_bounds.false in
     let copies_are : (0 < c.how_many-copies.result) × (c.how_many-copies.result ≤ 255) = subst (λ (v : ℕ). (0 < v) × (v ≤ 255)) (sym c.how_many-copies.ensures) (many (bounds_of c.args.i) (fine)) in
     let enough : (0 < c.args.p.n - c.args.n) × (c.args.p.n + (c.how_many-copies.result - 1) * (c.args.p.n - c.args.n) ≤ 60) × (c.args.n + c.how_many-copies.result * (c.args.p.n - c.args.n) ≤ 60) = room c.args.n c.args.p c.how_many-copies.result c.requires.0 (copies_are).0 c.if-p-n.false in let e = enough in (e.0, omega arith, omega (arith, e.1, c.requires.0.on, c.requires.1.credits_are))
@@ -113,6 +113,6 @@ returns c =
     let e = enough in
     let made = c.chain.ensures in (
       λ s at m R I g w f. written_stands s at _ m _ _ R I _ _ i w g f good (made.0.good ∙ good) made.0.place
-          (λ h. has_few _ m _ _ R.part h i.good i.at (bounds_of i) copies.result (fine) copies.ensures (copies_are).0 (c.args.p.n - c.args.n) _ _ _ _ _ e.2 (omega (arith, c.requires.0.on)) c.requires.1.credits_are c.repeat.ensures c.bytes.ensures made.0),
+          (λ h. has_few _ m _ _ R.part h i.good i.at (bounds_of i) copies.result (fine) copies.ensures (copies_are).0 (c.args.p.n - c.args.n) _ _ _ _ _ e.2 (omega (arith, c.requires.0.on)) c.requires.1.credits_are c.repeat.ensures c.entries.ensures made.0),
       made.1,
     )

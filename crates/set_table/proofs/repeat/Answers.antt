@@ -3,4 +3,4 @@ use Rattle.set_table.proofs.Tables.{repeats}
 use Rattle.set_table.proofs.repeat.Goals as goal
 
 pub returns : goal.returns
-returns c = repeats _ _ _ _ _ c.words.ensures
+returns c = repeats _ _ _ _ _ c.entries.ensures
