@@ -1,7 +1,7 @@
 -- Tables turned round: a number is put into each entry of a set, member by member, and that for each row in turn. A law for the turn
 -- of either loop, of any set: one of positions and one of letters are walked alike. Assumes nothing.
 use mathlib.Core.Path.{◌≡◌, refl, sym, ap, ap₂, ◌∙◌, subst}
-use mathlib.Core.Bool.{Bool, true, false, ◌&&◌, ◌||◌, or-false}
+use mathlib.Core.Bool.{Bool, true, false, not, ◌&&◌, ◌||◌, or-false}
 use mathlib.Core.List.{List}
 use Prim.Native.Nat.{ℕ, ◌+◌, ◌<◌, zero-le}
 use native.Mathlib.Omega.{arith}
@@ -10,7 +10,7 @@ use lib.ListN.{length, get_or, set, replicate, length-set}
 use lib.Seq.{get_or-set_same, get_or-set_other}
 use borrow.Author.Tests.{le-ltb}
 use Rattle.basics.specs.Folds.{Less}
-use Rattle.basics.proofs.Tests.{by_equal, one_further}
+use Rattle.basics.proofs.Tests.{and_parts, by_equal, one_further}
 use Rattle.basics.proofs.Lists.{zeros}
 use Rattle.basics.proofs.Folds.{less_here, less_other}
 use Rattle.bits.specs.Bits.{has_bit}
@@ -22,14 +22,19 @@ use Rattle.columns.specs.Tables.{Columns, Entered}
 -- j is still to be put into the entries that pass q
 pub record Entering (p q : ℕ → Bool) (j : ℕ) (table table' : List ℕ) : Type 0 where
   pub size : length table' ≡ length table
+  pub within : (x : ℕ) → q x ≡ true → p x ≡ true
   pub has : (x i : ℕ) → (has_bit (get_or table' x 0) i || (q x && eqb j i)) ≡ (has_bit (get_or table x 0) i || (p x && eqb j i))
 
 pub enter_start : (p : ℕ → Bool) (j : ℕ) (table : List ℕ) → Entering p p j table table
-enter_start p j table = record { size = refl; has = λ x i. refl }
+enter_start p j table = record { size = refl; within = λ x e. e; has = λ x i. refl }
 
 pub enter_on : (p q r : ℕ → Bool) (j t v : ℕ) (table table' : List ℕ) → Entering p q j table table' → q t ≡ true → Less q t r → t < length table
     → ((i : ℕ) → has_bit v i ≡ (has_bit (get_or table' t 0) i || eqb j i)) → Entering p r j table (set table' t v)
-enter_on p q r j t v table table' h here less fits e = record { size = length-set table' t v ∙ h.size; has = has }
+enter_on p q r j t v table table' h here less fits e = record {
+  size = length-set table' t v ∙ h.size;
+  within = λ x k. h.within x (and_parts (q x) (not (eqb t x)) (sym (less x) ∙ k)).0;
+  has = has;
+}
   where
     has : (x i : ℕ) → (has_bit (get_or (set table' t v) x 0) i || (r x && eqb j i)) ≡ (has_bit (get_or table x 0) i || (p x && eqb j i))
     has x i =

@@ -2,11 +2,12 @@
 // hold it. Both tables are a built pattern's, turned round: a row is walked member by member, and its number put into each entry.
 #![tactic(auto)]
 
-ghost use Rattle.std.specs.Prelude.{ℕ, ◌<◌, ◌≤◌, ◌+◌, ◌^◌, length, get_or};
+ghost use Rattle.std.specs.Prelude.{◌≡◌, true, ℕ, ◌<◌, ◌≤◌, ◌+◌, ◌^◌, length, get_or};
 ghost use Rattle.bits.specs.Bits.{has_bit};
 ghost use Rattle.letters.specs.LetterSet.{has_letter, set_at, OnlyLetters};
 ghost use Rattle.columns.specs.Tables.{Columns, Entered};
 
+use bits::NumberSet;
 use letters::LetterSet;
 
 // For each position the states that it may follow, from the positions that may follow each state.
@@ -15,31 +16,28 @@ pub fn states_before(follow: &[u64; 61], positions: usize) -> [u64; 61]
     ensures { Columns (λ u i. has_bit (get_or follow.now u 0) i) (positions + 1) result }
 {
     let mut table = [0u64; 61];
-    let mut u: usize = 0;
-    while u <= positions {
-        enter(&mut table, follow[u], u);
-        u += 1;
+    for (u, &row) in follow[..positions + 1].iter().enumerate() {
+        enter(&mut table, row, u);
     }
     table
 }
 
 // For each letter the positions that hold it, and for any other code none. A position with a wide set is entered for the letters that it
 // lacks, and in the end such positions are flipped in the entry of each letter.
-pub fn holders_of(sets: [LetterSet; 61], positions: usize) -> [u64; 256]
-    requires { OnlyLetters sets × (positions ≤ 60) }
-    ensures { Columns (λ i c. has_letter (set_at sets i) c) (positions + 1) result }
+pub fn holders_of(sets: &[LetterSet; 61], positions: usize) -> [u64; 256]
+    requires { OnlyLetters sets.now × (positions ≤ 60) }
+    ensures { Columns (λ i c. has_letter (set_at sets.now i) c) (positions + 1) result }
 {
     let mut table = [0u64; 256];
     let mut wide: u64 = 0;
-    let mut i: usize = 0;
-    while i <= positions {
-        let mut s = sets[i];
-        if s.is_wide() {
-            s = s.complement();
+    for (i, &set) in sets[..positions + 1].iter().enumerate() {
+        let entered = if set.is_wide() {
             wide = bits::with(wide, i);
-        }
-        enter_letters(&mut table, s, i);
-        i += 1;
+            set.complement()
+        } else {
+            set
+        };
+        enter(&mut table, entered, i);
     }
     if wide != 0 {
         alphabet::flip_letters(&mut table, wide);
@@ -48,27 +46,11 @@ pub fn holders_of(sets: [LetterSet; 61], positions: usize) -> [u64; 256]
 }
 
 // j put into the entries of a set.
-pub fn enter(table: &mut [u64], members: u64, j: usize)
-    requires { (members < 2 ^ 61) × (61 ≤ length table.old) × (j < 64) }
-    ensures { Entered (has_bit members) j table.old table.new }
+pub fn enter<S: NumberSet>(table: &mut [u64], members: S, j: usize)
+    requires { ((x : ℕ) → S.has members x ≡ true → x < length table.old) × (j < 64) }
+    ensures { Entered (S.has members) j table.old table.new }
 {
-    let mut left = members;
-    while left != 0 {
-        let x = bits::lowest(left);
+    for x in bits::members(members) {
         table[x] = bits::with(table[x], j);
-        left = bits::rest(left);
-    }
-}
-
-// j put into the entries of a set of letters.
-fn enter_letters(table: &mut [u64], members: LetterSet, j: usize)
-    requires { (256 ≤ length table.old) × (j < 64) }
-    ensures { Entered (has_letter members) j table.old table.new }
-{
-    let mut left = members;
-    while !left.is_empty() {
-        let x = left.lowest() as usize;
-        table[x] = bits::with(table[x], j);
-        left = left.rest();
     }
 }

@@ -26,10 +26,8 @@ pub fn mark(b: Built, more: &[u8], answer: &[u8]) -> Marked
     requires { Bounded (graph_of_built b more.now) × (b.doubled ≡ false → SingleLinks (graph_of_built b more.now)) × (length more.now ≡ 3721) × (length answer.now ≤ 4096) }
     ensures { Answered (graph_of_built b more.now) answer.now result.count result.mark × (result.taken ≡ letters_taken (graph_of_built b more.now) answer.now) }
 {
-    let follow = b.follow;
-    let before = columns::states_before(&follow, b.positions);
-    let letters = b.letters;
-    let holders = columns::holders_of(letters, b.positions);
+    let before = columns::states_before(&b.follow, b.positions);
+    let holders = columns::holders_of(&b.letters, b.positions);
     let credits = b.credits;
     let mut counts = [0u64; 122];
     let mut best = [0u32; 122];

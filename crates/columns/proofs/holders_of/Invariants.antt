@@ -1,13 +1,8 @@
 -- The first i rows are entered, those of wide sets by what they lack, and in the end these are flipped. Assumes nothing.
-use mathlib.Core.Path.{◌≡◌}
-use Prim.Native.Nat.{◌+◌, ◌-◌, ◌≤◌}
-use lib.ListN.{length}
+use Rattle.std.proofs.Common.{◌≡◌, length}
 use Rattle.columns.specs.Tables.{Columns}
 use Rattle.columns.proofs.Wide.{is_entered, WideBelow}
 use Rattle.columns.proofs.holders_of.Given as goal
 
 abbrev pub invariant-loop-i : goal.invariant-loop-i
-invariant-loop-i l = (l.i ≤ l.positions + 1) × (length l.table ≡ 256) × WideBelow l.i l.wide × Columns (is_entered l.sets l.wide) l.i l.table
-
-abbrev pub decreases-loop-i : goal.decreases-loop-i
-decreases-loop-i l = l.positions + 1 - l.i
+invariant-loop-i l = (length l.table ≡ 256) × WideBelow l.i l.wide × Columns (is_entered l.sets l.wide) l.i l.table

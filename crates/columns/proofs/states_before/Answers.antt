@@ -1,30 +1,34 @@
 -- The first u rows are entered. Assumes nothing.
-use mathlib.Core.Path.{◌≡◌, refl, sym, ◌∙◌, subst}
-use Prim.Native.Nat.{ℕ, ◌+◌}
-use native.Mathlib.Omega.{arith}
-use lib.ListN.{get_or}
+use Rattle.std.proofs.Common.{◌≡◌, ℕ, ◌+◌, ◌<◌, get_or, take, refl, ◌∙◌, subst, arith}
+use Rattle.std.proofs.lemmas.List.{get_or-take, length-take-le}
 use Rattle.bits.specs.Bits.{has_bit}
-use Rattle.columns.specs.Tables.{Columns}
+use Rattle.bits.proofs.Laws.{member_below}
+use Rattle.columns.specs.Tables.{Columns, Entered}
 use Rattle.columns.proofs.Columns.{columns_start, columns_on}
 use Rattle.columns.proofs.states_before.Goals as goal
 
 pub loop-u-init : goal.loop-u-init
-loop-u-init c = (omega arith, refl, columns_start (λ v i. has_bit (get_or c.args.follow.now v 0) i) 61)
-
-pub slice_bounds-enter-end : goal.slice_bounds-enter-end
-slice_bounds-enter-end c = sym c.loop-u.invariant.1
+loop-u-init c = (refl, columns_start (λ v i. has_bit (get_or c.args.follow.now v 0) i) 61)
 
 pub enter-requires : goal.enter-requires
-enter-requires c = (c.requires.1 c.loop-u.u, omega (arith, c.loop-u.invariant.1), omega arith)
+enter-requires c =
+    let at = c.loop-u in
+    let n = c.args.positions + 1 in
+    let l : at.u < n = omega (arith, length-take-le n c.args.follow.now) in
+    let row = get_or-take n c.args.follow.now at.u 0 l in
+    (λ x here. omega (arith, at.invariant.0, member_below 61 (get_or (take n c.args.follow.now) at.u 0) x (omega (arith, row, c.requires.1 at.u)) here), omega arith)
 
 pub loop-u-preserved : goal.loop-u-preserved
 loop-u-preserved c =
     let at = c.loop-u in
-    let e = c.enter in
-    (omega arith, e.ensures.size ∙ at.invariant.1, columns_on (λ v i. has_bit (get_or c.args.follow.now v 0) i) at.u at.table e.new.table at.invariant.2 e.ensures)
+    let follow = c.args.follow.now in
+    let n = c.args.positions + 1 in
+    let l : at.u < n = omega (arith, length-take-le n follow) in
+    let e = subst (λ (m : ℕ). Entered (has_bit m) at.u at.table c.enter.new.table) (get_or-take n follow at.u 0 l) c.enter.ensures in
+    (e.size ∙ at.invariant.0, columns_on (λ v i. has_bit (get_or follow v 0) i) at.u at.table c.enter.new.table at.invariant.1 e)
 
 pub returns : goal.returns
 returns c =
     let at = c.loop-u in
-    let z : at.u ≡ c.args.positions + 1 = omega arith in
-    subst (λ (n : ℕ). Columns (λ v i. has_bit (get_or c.args.follow.now v 0) i) n at.table) z at.invariant.2
+    let z : at.u ≡ c.args.positions + 1 = omega (arith, length-take-le (c.args.positions + 1) c.args.follow.now) in
+    subst (λ (n : ℕ). Columns (λ v i. has_bit (get_or c.args.follow.now v 0) i) n at.table) z at.invariant.1

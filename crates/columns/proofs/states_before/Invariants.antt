@@ -1,13 +1,8 @@
 -- The first u rows are entered. Assumes nothing.
-use mathlib.Core.Path.{◌≡◌}
-use Prim.Native.Nat.{◌+◌, ◌-◌, ◌≤◌}
-use lib.ListN.{length, get_or}
+use Rattle.std.proofs.Common.{◌≡◌, length, get_or}
 use Rattle.bits.specs.Bits.{has_bit}
 use Rattle.columns.specs.Tables.{Columns}
 use Rattle.columns.proofs.states_before.Given as goal
 
 abbrev pub invariant-loop-u : goal.invariant-loop-u
-invariant-loop-u l = (l.u ≤ l.positions + 1) × (length l.table ≡ 61) × Columns (λ v i. has_bit (get_or l.follow v 0) i) l.u l.table
-
-abbrev pub decreases-loop-u : goal.decreases-loop-u
-decreases-loop-u l = l.positions + 1 - l.u
+invariant-loop-u l = (length l.table ≡ 61) × Columns (λ v i. has_bit (get_or l.follow v 0) i) l.u l.table
