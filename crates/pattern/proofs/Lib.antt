@@ -6,6 +6,7 @@ pub mod Follows
 pub mod Intervals
 pub mod Link
 pub mod Moved
+pub mod Numbers
 pub mod Own
 pub mod RunTexts
 pub mod Runs

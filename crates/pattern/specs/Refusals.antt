@@ -1,10 +1,11 @@
--- [Refusals of a pattern] in checking order.
-use Rattle.std.specs.Prelude.{Bool, false, ◌||◌, not, List, [], ◌∷◌, ℕ, eqb, ltb, length, if◌then◌else◌}
+-- [Refusals of a pattern] in checking order, and the numbers of all refusals.
+use Rattle.std.specs.Prelude.{Bool, false, ◌||◌, not, List, [], ◌∷◌, ℕ, ltb, length, if◌then◌else◌, Result, Ok, Err}
 use Rattle.alphabet.specs.Alphabet.{all_letters, some_letter}
-use Rattle.graph.specs.Graph.{Graph, no_graph}
 use Rattle.pattern.specs.Parts.{Item, Atom, holds, is_misbounded, Part, letter, either, joined, again}
 use Rattle.pattern.specs.Grammar.{is_pattern, pattern_part}
-use Rattle.pattern.specs.Positions.{atoms, positions, pattern_graph}
+use Rattle.pattern.specs.Positions.{atoms, positions}
+use Rattle.pattern.specs.declared.Refusal.{Refusal}
+use Rattle.pattern.specs.declared.Refusal.TheVariants.{ShortEvidence, ShortScratch, LongPattern, PatternNotLetters, BrokenGrammar, ReversedRange, EmptyClass, ManyPositions, LongAnswer, AnswerNotLetters, WrongBounds}
 
 -- [Refusals of a pattern] 6: a range from a higher code to a lower one
 abbrev pub some_reversed : List Item → Bool
@@ -39,6 +40,21 @@ pattern_refusal s =
     else if ltb 60 (positions (pattern_part s)) then 8
     else 0
 
--- the graph that a pattern is built into: its own if it is accepted, otherwise the one without positions
-abbrev pub built_graph : List ℕ → Graph
-built_graph s = if eqb (pattern_refusal s) 0 then pattern_graph s else no_graph
+-- [Refusals] the number of a refusal
+abbrev pub number_of : Refusal → ℕ
+number_of ShortEvidence = 1
+number_of ShortScratch = 2
+number_of LongPattern = 3
+number_of PatternNotLetters = 4
+number_of BrokenGrammar = 5
+number_of ReversedRange = 6
+number_of EmptyClass = 7
+number_of ManyPositions = 8
+number_of LongAnswer = 9
+number_of AnswerNotLetters = 10
+number_of WrongBounds = 11
+
+-- the refusal that a result stands for, by its number: 0 where there is none
+abbrev pub refusal_of : {A : Type 0} → Result A Refusal → ℕ
+refusal_of (Ok a) = 0
+refusal_of (Err e) = number_of e

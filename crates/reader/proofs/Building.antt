@@ -8,21 +8,18 @@ use mathlib.Core.Logic.{⊎_elim}
 use Prim.Native.Nat.{ℕ, zero, suc, ◌+◌, ◌*◌, ◌≤◌, ◌<◌}
 use native.Mathlib.Omega.{arith}
 use lib.Dec.{eqb, ltb, leb}
-use lib.IntN.{ℤ, pos, nat_abs}
-use lib.ListN.{length, get_or, set, replicate}
+use lib.IntN.{ℤ, nat_abs}
+use lib.ListN.{length, get_or, set}
 use lib.Seq.{take_all, get_or-set_same, get_or-set_other}
 use borrow.Author.Tests.{lt-ltb, le-ltb, le-leb, ne_eqb, ltb-true}
 use Rattle.std.specs.Prelude.{if◌then◌else◌}
 use Rattle.basics.proofs.Tests.{and_of, by_test, le_or_lt}
-use Rattle.basics.proofs.Lists.{alike}
 use Rattle.bits.specs.Bits.{has_bit}
-use Rattle.bits.proofs.Laws.{has_none}
 use Rattle.letters.specs.LetterSet.{has_letter, set_at}
 use Rattle.letters.specs.declared.LetterSet.{LetterSet}
 use Rattle.set_table.specs.Table.{set_in}
-use Rattle.letters.proofs.Sets.{all_empty}
-use Rattle.graph.specs.Graph.{some, no_graph, Bounded, SingleLinks}
-use Rattle.graph.specs.Built.{lowered, graph_of_built}
+use Rattle.graph.specs.Graph.{some, Bounded, SingleLinks}
+use Rattle.graph.specs.Built.{graph_of_built}
 use Rattle.graph.proofs.Best.{lowered_low}
 use Rattle.graph.proofs.Links.{of_some, none_of, built_doubled}
 use Rattle.graph.specs.declared.Built.{Built}
@@ -37,16 +34,6 @@ use Rattle.parsed.specs.Tables.{atom_of, Stored}
 use Rattle.parsed.specs.Parsed.{shape_of}
 use Rattle.parts.specs.Parsing.{Kept}
 use Rattle.parts.specs.declared.ParsedRows.{ParsedRows}
-
-pub none_shown : (none : LetterSet) → ((c : ℕ) → has_letter none c ≡ false) → (more : List ℕ)
-    → graph_of_built record { positions = 0; follow = replicate 61 0; doubled = false; lasts = 0; letters = replicate 61 none; credits = replicate 61 9 } more ≡ no_graph
-none_shown none empty more = λ t. record {
-  positions = 0;
-  links = λ u i. ap (λ (b : Bool). if b then suc (get_or more (61 * u + i) 0) else 0) (alike (λ (m : ℕ). has_bit m i ≡ false) 61 0 0 (has_none i) (has_none i) u) t;
-  last = λ u. has_none u t;
-  holds = λ i c. all_empty 61 none empty i c t;
-  credit = λ i. alike (λ (n : ℕ). lowered 1 n ≡ pos 0) 61 9 9 refl refl i t;
-}
 
 -- an atom of up to 60 is stored
 atom_kept_at : (x : Part) → positions x ≤ 60 → (i : ℕ) → atom_of (atoms x) i ≡ atom_at x i

@@ -2,25 +2,25 @@
 use mathlib.Core.Path.{◌≡◌, refl, sym, ap, ◌∙◌, subst}
 use mathlib.Core.Bool.{Bool, true, false, not, ◌&&◌, false≢true, true≢false}
 use mathlib.Core.List.{List, [], ◌∷◌}
-use Prim.Native.Nat.{ℕ, zero, suc, ◌<◌}
+use Prim.Native.Nat.{ℕ, zero, suc}
 use native.Mathlib.Omega.{arith}
 use lib.Dec.{eqb, ltb}
 use lib.ListN.{length, get_or, take, length-drop}
-use borrow.Author.Tests.{eqb-true, eq-eqb, ne_eqb}
-use Rattle.std.specs.Prelude.{if◌then◌else◌}
+use borrow.Author.Tests.{eqb-true, eq-eqb}
+use Rattle.std.specs.Prelude.{if◌then◌else◌, Ok, Err}
 use Rattle.basics.specs.Lists.{Each}
 use Rattle.basics.proofs.Tests.{and_when, same_test, if_yes, if_no}
 use Rattle.alphabet.specs.Alphabet.{all_letters}
-use Rattle.graph.specs.Graph.{no_graph, Bounded, SingleLinks}
+use Rattle.graph.specs.Graph.{Bounded, SingleLinks}
 use Rattle.graph.specs.Built.{graph_of_built}
-use Rattle.graph.proofs.Bounds.{none_bounded}
+use Rattle.graph.specs.declared.Built.{Built}
 use Rattle.pattern.specs.Grammar.{read_pattern, is_pattern, pattern_part}
 use Rattle.pattern.specs.Positions.{atoms, positions, pattern_graph}
-use Rattle.pattern.specs.Refusals.{any_reversed, any_empty, any_misbounded, pattern_refusal, built_graph}
+use Rattle.pattern.specs.Refusals.{any_reversed, any_empty, any_misbounded, pattern_refusal, number_of}
+use Rattle.pattern.specs.declared.Refusal.{Refusal}
 use Rattle.parts.specs.Parsing.{ParsesAll}
-use Rattle.reader.specs.Read.{Reads, Refuses}
+use Rattle.reader.specs.Read.{Reads}
 use Rattle.parsed.specs.declared.Parsed.{Parsed}
-use Rattle.reader.specs.declared.ReadPattern.{ReadPattern}
 
 -- a test and the number that it stands for
 abbrev Test : Type 0
@@ -61,31 +61,17 @@ module _ (s : List ℕ) where
   Passes n = Each Fails (take n tests)
 
   -- the test number n applies and none before it
-  pub refuses : (n : ℕ) (more : List ℕ) (r : ReadPattern) → 0 < (get_or tests n (0, false)).0 → Passes n → (get_or tests n (0, false)).1 ≡ true → Refuses (get_or tests n (0, false)).0 r → Reads s more r
-  refuses n more r some h e w =
-      let is : pattern_refusal s ≡ (get_or tests n (0, false)).0 = first_is tests n h e in
-      let none : built_graph s ≡ no_graph = if_no (pattern_graph s) no_graph (eqb (pattern_refusal s) 0) (ne_eqb (pattern_refusal s) 0 (λ z. omega arith)) in
-      record {
-        refusal = w.refusal ∙ sym is;
-        graph = w.graph more ∙ sym none;
-        bounded = subst Bounded (sym (w.graph more)) none_bounded;
-        single = λ d. subst SingleLinks (sym (w.graph more)) (λ u i. refl);
-      }
+  pub refuses : (n : ℕ) (more : List ℕ) (e : Refusal) → number_of e ≡ (get_or tests n (0, false)).0 → Passes n → (get_or tests n (0, false)).1 ≡ true → Reads s more (Err e)
+  refuses n more e number h t = record { refusal = number ∙ sym (first_is tests n h t); built = tt }
 
   -- none applies
   pub no_refusal : Passes 7 → pattern_refusal s ≡ 0
   no_refusal h = first_none tests h
 
-  pub accepts : (more : List ℕ) (r : ReadPattern) → Passes 7 → r.refusal ≡ 0 → graph_of_built r.built more ≡ pattern_graph s → Bounded (pattern_graph s)
-      → (r.built.doubled ≡ false → SingleLinks (graph_of_built r.built more)) → Reads s more r
-  accepts more r h z same bounds single =
-      let is = no_refusal h in
-      record {
-        refusal = z ∙ sym is;
-        graph = same ∙ sym (if_yes (pattern_graph s) no_graph (eqb (pattern_refusal s) 0) (eq-eqb (pattern_refusal s) 0 is));
-        bounded = subst Bounded (sym same) bounds;
-        single = single;
-      }
+  pub accepts : (more : List ℕ) (b : Built) → Passes 7 → graph_of_built b more ≡ pattern_graph s → Bounded (pattern_graph s)
+      → (b.doubled ≡ false → SingleLinks (graph_of_built b more)) → Reads s more (Ok b)
+  accepts more b h same bounds single =
+      record { refusal = sym (no_refusal h); built = record { graph = same; bounded = subst Bounded (sym same) bounds; single = single } }
 
 -- ---- the tests as the code has them
 

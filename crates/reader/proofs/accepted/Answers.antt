@@ -10,10 +10,8 @@ use Rattle.reader.proofs.accepted.Goals as goal
 pub returns : goal.returns
 returns c =
     let start = c.args in
-    let rows : length start.p.rows ≡ 61 = search rules in (
-      refl,
-      record {
-        graph = built_shown start.p start.sets.now start.credits c.sets-letters.result c.with_if.result (omega arith) c.sets-letters.ensures c.with_if.ensures;
-        doubled = refl;
-      },
-    )
+    let rows : length start.p.rows ≡ 61 = search rules in
+    record {
+      graph = built_shown start.p start.sets.now start.credits c.sets.result c.with_if.result (omega arith) c.sets.ensures c.with_if.ensures;
+      doubled = refl;
+    }

@@ -1,15 +1,16 @@
 -- At each return the tests before it did not apply. Where the third does not, the text is a pattern, and what was parsed is the
 -- whole of it. Where none does, no two states have more than 256 links, so that none is lost. Assumes nothing.
-use mathlib.Core.Path.{◌≡◌, refl, sym, ap, ◌∙◌}
-use mathlib.Core.Bool.{true, false, not, ◌&&◌}
+use mathlib.Core.Path.{◌≡◌, refl, sym, ap, ap₂, ◌∙◌}
+use mathlib.Core.Bool.{Bool, true, false, not, ◌&&◌}
+use mathlib.Core.Logic.{◌⊎◌, inl, inr}
 use mathlib.Core.List.{List}
 use Prim.Native.Nat.{ℕ, ◌≤◌}
 use native.Mathlib.Omega.{arith}
 use lib.Dec.{eqb}
 use lib.ListN.{length}
 use borrow.Author.Rules.{rules}
-use borrow.Author.Tests.{lt-ltb, le-ltb}
-use Rattle.basics.proofs.Tests.{and_parts}
+use borrow.Author.Tests.{lt-ltb, le-ltb, eq-eqb, ne_eqb}
+use Rattle.basics.proofs.Tests.{and_of, and_parts}
 use Rattle.pattern.specs.Grammar.{read_pattern, is_pattern, pattern_part}
 use Rattle.pattern.specs.Positions.{positions}
 use Rattle.alphabet.specs.Alphabet.{all_letters}
@@ -56,15 +57,20 @@ module _ {s rows more sets credits : List ℕ} {p : Parsed} (short : length s �
 
 -- ---- the returns
 
+-- the third test, from its two parts
+no_end : (good : Bool) (at end : ℕ) → ((good ≡ true) × (at ≡ end → ⊥)) ⊎ (good ≡ false) → (good && eqb at end) ≡ false
+no_end good at end (inl h) = ap₂ ◌&&◌ h.0 (ne_eqb at end h.1)
+no_end good at end (inr h) = ap (λ (b : Bool). b && eqb at end) h
+
 pub returns-then-s-gt-LONGEST : goal.returns-then-s-gt-LONGEST
 returns-then-s-gt-LONGEST c =
     let s = c.args.s.now in
-    refuses s 0 _ c.refused.result (omega arith) tt (lt-ltb 512 (length s) c.if-s-gt-LONGEST.true) c.refused.ensures
+    refuses s 0 _ _ refl tt (lt-ltb 512 (length s) c.if-s-gt-LONGEST.true)
 
 pub returns-then-not-all_letters : goal.returns-then-not-all_letters
 returns-then-not-all_letters c =
     let s = c.args.s.now in
-    refuses s 1 _ c.refused-then-not-all_letters.result (omega arith) (le-ltb 512 (length s) c.if-s-gt-LONGEST.false, tt) (ap not (sym c.all_letters.ensures ∙ c.if-not-all_letters.true)) c.refused-then-not-all_letters.ensures
+    refuses s 1 _ _ refl (le-ltb 512 (length s) c.if-s-gt-LONGEST.false, tt) (ap not (sym c.all_letters.ensures ∙ c.if-not-all_letters.true))
 
 pub parse-p-requires : goal.parse-p-requires
 parse-p-requires c =
@@ -78,17 +84,7 @@ returns-then-not-part-s c =
     let reads = c.parse-p.ensures in
     let short = c.if-s-gt-LONGEST.false in
     let letters : all_letters s ≡ true = sym c.all_letters.ensures ∙ c.if-not-all_letters.false in
-    refuses s 2 _ c.refused-then-not-part-s.result (omega arith) (passes_2 short letters reads) (ap not (sym (whole_pattern s _ _ _ _ part reads) ∙ c.if-not-part-s.true)) c.refused-then-not-part-s.ensures
-
-pub returns-then-part : goal.returns-then-part
-returns-then-part c =
-    let s = c.args.s.now in
-    let part = c.parse-p.result.part in
-    let reads = c.parse-p.ensures in
-    let short = c.if-s-gt-LONGEST.false in
-    let letters : all_letters s ≡ true = sym c.all_letters.ensures ∙ c.if-not-all_letters.false in
-    let ends : (part.good && eqb part.at (length s)) ≡ true = c.if-not-part-s.false in
-    refuses s 3 _ c.refused-then-part.result (omega arith) (passes_3 short letters reads ends) (sym (parsed short letters reads ends).reversed ∙ c.if-part.true) c.refused-then-part.ensures
+    refuses s 2 _ _ refl (passes_2 short letters reads) (ap not (sym (whole_pattern s _ _ _ _ part reads) ∙ no_end part.good part.at (length s) c.if-not-part-s.either))
 
 pub returns-then-part-2 : goal.returns-then-part-2
 returns-then-part-2 c =
@@ -97,8 +93,8 @@ returns-then-part-2 c =
     let reads = c.parse-p.ensures in
     let short = c.if-s-gt-LONGEST.false in
     let letters : all_letters s ≡ true = sym c.all_letters.ensures ∙ c.if-not-all_letters.false in
-    let ends : (part.good && eqb part.at (length s)) ≡ true = c.if-not-part-s.false in
-    refuses s 4 _ c.refused-then-part-2.result (omega arith) (passes_4 short letters reads ends c.if-part.false) (sym (parsed short letters reads ends).hollow ∙ c.if-part-2.true) c.refused-then-part-2.ensures
+    let ends : (part.good && eqb part.at (length s)) ≡ true = and_of part.good (eqb part.at (length s)) c.if-not-part-s.false.0 (eq-eqb part.at (length s) c.if-not-part-s.false.1) in
+    refuses s 3 _ _ refl (passes_3 short letters reads ends) (sym (parsed short letters reads ends).reversed ∙ c.if-part-2.true)
 
 pub returns-then-part-3 : goal.returns-then-part-3
 returns-then-part-3 c =
@@ -107,8 +103,18 @@ returns-then-part-3 c =
     let reads = c.parse-p.ensures in
     let short = c.if-s-gt-LONGEST.false in
     let letters : all_letters s ≡ true = sym c.all_letters.ensures ∙ c.if-not-all_letters.false in
-    let ends : (part.good && eqb part.at (length s)) ≡ true = c.if-not-part-s.false in
-    refuses s 5 _ c.refused-then-part-3.result (omega arith) (passes_5 short letters reads ends c.if-part.false c.if-part-2.false) (sym (parsed short letters reads ends).misbounded ∙ c.if-part-3.true) c.refused-then-part-3.ensures
+    let ends : (part.good && eqb part.at (length s)) ≡ true = and_of part.good (eqb part.at (length s)) c.if-not-part-s.false.0 (eq-eqb part.at (length s) c.if-not-part-s.false.1) in
+    refuses s 4 _ _ refl (passes_4 short letters reads ends c.if-part-2.false) (sym (parsed short letters reads ends).hollow ∙ c.if-part-3.true)
+
+pub returns-then-part-4 : goal.returns-then-part-4
+returns-then-part-4 c =
+    let s = c.args.s.now in
+    let part = c.parse-p.result.part in
+    let reads = c.parse-p.ensures in
+    let short = c.if-s-gt-LONGEST.false in
+    let letters : all_letters s ≡ true = sym c.all_letters.ensures ∙ c.if-not-all_letters.false in
+    let ends : (part.good && eqb part.at (length s)) ≡ true = and_of part.good (eqb part.at (length s)) c.if-not-part-s.false.0 (eq-eqb part.at (length s) c.if-not-part-s.false.1) in
+    refuses s 5 _ _ refl (passes_5 short letters reads ends c.if-part-2.false c.if-part-3.false) (sym (parsed short letters reads ends).misbounded ∙ c.if-part-4.true)
 
 pub returns-then-part-gt-MOST : goal.returns-then-part-gt-MOST
 returns-then-part-gt-MOST c =
@@ -117,9 +123,9 @@ returns-then-part-gt-MOST c =
     let reads = c.parse-p.ensures in
     let short = c.if-s-gt-LONGEST.false in
     let letters : all_letters s ≡ true = sym c.all_letters.ensures ∙ c.if-not-all_letters.false in
-    let ends : (part.good && eqb part.at (length s)) ≡ true = c.if-not-part-s.false in
+    let ends : (part.good && eqb part.at (length s)) ≡ true = and_of part.good (eqb part.at (length s)) c.if-not-part-s.false.0 (eq-eqb part.at (length s) c.if-not-part-s.false.1) in
     let count = (parsed short letters reads ends).count in
-    refuses s 6 _ c.refused-then-part-gt-MOST.result (omega arith) (passes_6 short letters reads ends c.if-part.false c.if-part-2.false (search rules)) (lt-ltb 60 (positions (pattern_part s)) (omega (arith, c.if-part-gt-MOST.true))) c.refused-then-part-gt-MOST.ensures
+    refuses s 6 _ _ refl (passes_6 short letters reads ends c.if-part-2.false c.if-part-3.false (search rules)) (lt-ltb 60 (positions (pattern_part s)) (omega (arith, c.if-part-gt-MOST.true)))
 
 pub returns : goal.returns
 returns c =
@@ -128,10 +134,10 @@ returns c =
     let reads = c.parse-p.ensures in
     let short = c.if-s-gt-LONGEST.false in
     let letters : all_letters s ≡ true = sym c.all_letters.ensures ∙ c.if-not-all_letters.false in
-    let ends : (part.good && eqb part.at (length s)) ≡ true = c.if-not-part-s.false in
-    let passes = passes_7 short letters reads ends c.if-part.false c.if-part-2.false c.if-part-3.false c.if-part-gt-MOST.false in
+    let ends : (part.good && eqb part.at (length s)) ≡ true = and_of part.good (eqb part.at (length s)) c.if-not-part-s.false.0 (eq-eqb part.at (length s) c.if-not-part-s.false.1) in
+    let passes = passes_7 short letters reads ends c.if-part-2.false c.if-part-3.false c.if-part-4.false c.if-part-gt-MOST.false in
     let l = few short letters reads ends c.if-part-gt-MOST.false in
     let w = (parsed short letters reads ends).keeps l in
-    let made = c.accepted.ensures.1 in
-    accepts s _ _ passes c.accepted.ensures.0 (made.graph (pattern_part s) _ w l (links_few s (no_refusal s passes))) (stored_bounded (pattern_part s) _ _ w.stored l)
-    (λ d. single_shown c.accepted.result.built c.parse-p.new.more (w.none (sym made.doubled ∙ d)))
+    let made = c.accepted-built.ensures in
+    accepts s _ _ passes (made.graph (pattern_part s) _ w l (links_few s (no_refusal s passes))) (stored_bounded (pattern_part s) _ _ w.stored l)
+    (λ d. single_shown c.accepted-built.result c.parse-p.new.more (w.none (sym made.doubled ∙ d)))
