@@ -1,14 +1,11 @@
 -- A set of letters, given by its test: whether it has one, and the lowest it has. Assumes nothing.
 use mathlib.Core.Path.{◌≡◌, refl, sym, ap, ◌∙◌}
 use mathlib.Core.Logic.{⊎_elim}
-use mathlib.Core.Bool.{Bool, true, false, ◌&&◌, ◌||◌, false≢true}
-use mathlib.Core.List.{List}
+use mathlib.Core.Bool.{Bool, true, false, ◌&&◌, ◌||◌, and-true, and_assoc, false≢true}
+use mathlib.Core.List.{List, [], ◌∷◌, ◌++◌}
 use Prim.Native.Nat.{ℕ, zero, suc, ◌+◌, ◌≤◌, ◌<◌}
 use native.Mathlib.Omega.{arith}
-use native.Mathlib.Numerals.{add-one}
 use lib.Dec.{leb}
-use lib.ListN.{length, get_or, drop}
-use lib.Seq.{drop-cons}
 use borrow.Author.Tests.{leb-true, le-leb}
 use Rattle.std.specs.Prelude.{if◌then◌else◌}
 use Rattle.basics.proofs.Tests.{and_parts, and_of, or_cases, or_left, or_right, by_equal}
@@ -74,6 +71,7 @@ letter_below c i = by_ranges (c < 256) 32 126 160 255 c i (λ a b. omega arith) 
 pub letter_some : (f : ℕ → Bool) (c : ℕ) → is_letter c ≡ true → f c ≡ true → some_letter f ≡ true
 letter_some f c i h = some_from_is 256 0 (λ c. is_letter c && f c) c (omega arith) (letter_below c i) (and_of (is_letter c) (f c) i h)
 
--- the letters of a text from a place on
-pub letters_from : (s : List ℕ) (i : ℕ) → i < length s → all_letters (drop i s) ≡ (is_letter (get_or s i 0) && all_letters (drop (i + 1) s))
-letters_from s i h = rw (add-one, drop-cons s i 0)
+-- a text with one byte more
+pub letters_more : (s : List ℕ) (c : ℕ) → all_letters (s ++ (c ∷ [])) ≡ (all_letters s && is_letter c)
+letters_more [] c = and-true (is_letter c)
+letters_more (b ∷ s) c = ap (λ (t : Bool). is_letter b && t) (letters_more s c) ∙ sym (and_assoc (is_letter b) (all_letters s) (is_letter c))

@@ -9,20 +9,14 @@ ghost use Rattle.alphabet.specs.Flipped.{Flipped};
 pub fn is_letter(code: u8) -> bool
     ensures { result ≡ is_letter code }
 {
-    ((32 <= code) & (code <= 126)) | (160 <= code)
+    matches!(code, 32..=126 | 160..=255)
 }
 
 // Is every byte a letter: so it is of none. All are looked at, whatever is found, since the loop is quicker without a way out.
 pub fn all_letters(s: &[u8]) -> bool
     ensures { result ≡ all_letters s.now }
 {
-    let mut good = true;
-    let mut i = 0;
-    while i < s.len() {
-        good = good & is_letter(s[i]);
-        i += 1;
-    }
-    good
+    s.iter().fold(true, |good, &code| good & is_letter(code))
 }
 
 // In a table by codes, the members of a mask are flipped in the entry of each letter: what was in is out, and what was out is in.
@@ -39,10 +33,7 @@ fn flip(table: &mut [u64], first: usize, last: usize, mask: u64)
     requires { (first ≤ last) × (last < 256) × (256 ≤ length table.old) }
     ensures { Flipped (λ c. leb first c && leb c last) mask table.old table.new }
 {
-    let mut k = first;
-    while k <= last {
-        let old = table[k];
-        table[k] = bits::union(bits::difference(mask, old), bits::difference(old, mask));
-        k += 1;
+    for entry in &mut table[first..=last] {
+        *entry ^= mask;
     }
 }

@@ -10,8 +10,11 @@ use native.Mathlib.Numerals.{one-add}
 use borrow.Author.Tests.{lt-ltb, eq-eqb}
 use lib.Dec.{eqb, ltb, eqb-suc-suc, eqb-zero-suc, eqb-suc-zero, leb, leb-zero, leb-suc-zero, leb-suc-suc}
 use lib.Pow.{pow_pos, pow-lt, shr-shr}
-use lib.Bits.{bit_and, bit_or, and_step, or_step, and_mask}
+use lib.Bits.{bit_and, bit_or, bit_xor, and_step, or_step, and_mask}
 use lib.Count.{count_trailing_zeros, under}
+use Rattle.std.specs.Prelude.{if◌then◌else◌}
+use Rattle.std.specs.Int.{bit_at}
+use Rattle.std.proofs.lemmas.Nat.Bits.{bit_at-lt, bit_at_xor}
 use Rattle.basics.proofs.Tests.{le_or_lt}
 use Rattle.bits.specs.Bits.{has_bit, Least}
 
@@ -99,6 +102,19 @@ has_and = bitwise bit_and min ◌&&◌ and_step one
     one true false = refl
     one false true = refl
     one false false = refl
+
+-- the members of b are flipped in a
+pub has_xor : (a b j : ℕ) → has_bit (bit_xor a b) j ≡ (if has_bit b j then not (has_bit a j) else has_bit a j)
+unfolding has_bit
+has_xor a b j = ap (λ (d : ℕ). eqb d 1) (bit_at_xor a b j) ∙ one (bit_at a j) (bit_at b j) (bit_at-lt a j) (bit_at-lt b j)
+  where
+    one : (x y : ℕ) → x < 2 → y < 2 → eqb ((x + y) % 2) 1 ≡ (if eqb y 1 then not (eqb x 1) else eqb x 1)
+    one zero zero h l = refl
+    one zero (suc zero) h l = refl
+    one (suc zero) zero h l = refl
+    one (suc zero) (suc zero) h l = refl
+    one (suc (suc x)) y h l = absurd (omega arith)
+    one x (suc (suc y)) h l = absurd (omega arith)
 
 halved : (k m : ℕ) → m < 2 ^ suc k → 2 ^ suc k - 1 - m ≡ (2 ^ k - 1 - m / 2) * 2 + digit (not (has_bit m 0))
 halved k m h = omega (arith, pow-suc 2 k, low_digit m, other (has_bit m 0))
