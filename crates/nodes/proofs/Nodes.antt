@@ -9,13 +9,19 @@ use native.Mathlib.Omega.{arith}
 use borrow.Author.Tests.{lt-ltb, le-ltb, ltb-true, leb-true, lt-leb, le-leb, not-true}
 use lib.Dec.{eqb, ltb, leb}
 use lib.ListN.{get_or}
-use Rattle.std.specs.Prelude.{if◌then◌else◌}
+use Rattle.std.specs.Prelude.{if◌then◌else◌, Option, None, Some}
+use Rattle.basics.specs.Folds.{LeastOf}
 use Rattle.basics.proofs.Tests.{and_parts, and_of, or_left, le_or_lt, if_yes, if_no, by_test}
 use Rattle.bits.specs.Bits.{has_bit}
-use Rattle.bits.proofs.Laws.{has_none, has_ones}
+use Rattle.bits.proofs.Laws.{has_ones}
 use Rattle.bits.proofs.Walk.{Passed}
-use Rattle.nodes.specs.Nodes.{IsNode, one, two, pack, left_of, right_of, goes, RowOf, Parts, Step, single, beside, taken, Even, PartnersOf, Free, FindsPair, Fresh, new_single, new_beside, Gone, Finds}
 use Rattle.nodes.specs.declared.Next.{Next}
+use Rattle.nodes.specs.declared.Node.{Node}
+use Rattle.nodes.specs.declared.Node.TheVariants.{Together, Parted as Two}
+use Rattle.nodes.specs.declared.Seen.{Seen}
+use Rattle.nodes.specs.declared.Steps.{Steps}
+use Rattle.nodes.specs.Nodes.{IsNode, one, two, pack, left_of, right_of, number_of, Fits, Numbered, left_side, right_side, goes, RowOf, Parts, Step, single, beside, PartnersOf}
+use Rattle.nodes.specs.Taken.{taken, Free, FoundPair, FindsPair, Fresh, new_single, new_beside, Gone, Found, Finds}
 
 -- ---- the two sides of a node
 
@@ -103,6 +109,37 @@ node_sides x (two {a} {b} l m h) k = (
   pack_more ((a * 64 + b) / 64) ((a * 64 + b) % 64) (omega arith) ∙ (omega arith),
 )
 
+-- ---- nodes as the program holds them
+
+pub fits_node : (n : Node) → Fits n → IsNode (number_of n)
+fits_node (Together a) h = one {a = a} h
+fits_node (Two a b) h = two {a = a} {b = b} h.0 h.1 h.2
+
+-- the node of a node's number
+pub numbered_fits : (x : ℕ) (n : Node) → IsNode x → Numbered x n → Fits n × (number_of n ≡ x)
+numbered_fits x (Together a) h e = let k : x ≤ 60 = low x h e.0 in (subst (λ (i : ℕ). i ≤ 60) (sym e.1) k, e.1)
+  where
+    low : (x : ℕ) → IsNode x → x < 64 → x ≤ 60
+    low x (one h) k = h
+    low x (two {a} {b} l m h) k = absurd (omega arith)
+numbered_fits x (Two a b) h e =
+    let o = ordered x h e.0 in
+    let l = o.0 in
+    let m = o.1 in
+    let n = o.2 in
+    let p = e.1 in
+    let q = e.2 in
+    ((omega arith, omega arith, omega arith), omega arith)
+  where
+    ordered : (x : ℕ) → IsNode x → 64 ≤ x → (1 ≤ x % 64) × (x % 64 ≤ x / 64) × (x / 64 ≤ 60)
+    ordered x (one {a} k) l = absurd (omega arith)
+    ordered x (two {a} {b} l m k) n = omega arith
+
+-- and its sides
+pub numbered_sides : (x : ℕ) (n : Node) → Numbered x n → (left_side n ≡ left_of x) × (right_side n ≡ right_of x)
+numbered_sides x (Together a) e = (e.1 ∙ sym (left_low x e.0), e.1 ∙ sym (right_low x e.0))
+numbered_sides x (Two a b) e = (e.1 ∙ sym (left_high x e.0), e.2 ∙ sym (right_high x e.0))
+
 -- ---- a step leads to a node
 
 pub goes_parts : (F : List ℕ) (u i : ℕ) → goes F u i ≡ true → (has_bit (get_or F u 0) i ≡ true) × (1 ≤ i) × (i ≤ 60)
@@ -112,54 +149,50 @@ goes_parts F u i h =
     let l = ltb-true i 61 q.1 in
     (p.0, leb-true 1 i q.0, omega arith)
 
-module _ (F D S : List ℕ) (x : ℕ) where
-  pub parts_positions : (a b : ℕ) → Parts F D S x a b → Places a b
+module _ (t : Steps) (x : ℕ) where
+  pub parts_positions : (a b : ℕ) → Parts t x a b → Places a b
   parts_positions a b p =
-      let l = goes_parts F (left_of x) a p.left in
-      let r = goes_parts F (right_of x) b p.right in
+      let l = goes_parts t.follow (left_of x) a p.left in
+      let r = goes_parts t.follow (right_of x) b p.right in
       record { left_low = l.1; left_high = l.2; right_low = r.1; right_high = r.2 }
 
-  pub step_node : (y : ℕ) → Step F D S x y → IsNode y
-  step_node y (single {a} l h) = one {a = a} (goes_parts F x a h).2
+  pub step_node : (y : ℕ) → Step t x y → IsNode y
+  step_node y (single {a} l h) = one {a = a} (goes_parts t.follow x a h).2
   step_node y (beside {a} {b} p) = pack_node a b (parts_positions a b p)
 
 -- ---- taken up
 
-pub taken_low : (alone : ℕ) (seen : List ℕ) (x : ℕ) → x < 64 → taken alone seen x ≡ has_bit alone x
+pub taken_low : (seen : Seen) (x : ℕ) → x < 64 → taken seen x ≡ has_bit seen.states x
 unfolding taken
-taken_low alone seen x h = if_yes (has_bit alone x) (has_bit (get_or seen (x / 64) 0) (x % 64)) (ltb x 64) (lt-ltb x 64 h)
+taken_low seen x h = if_yes (has_bit seen.states x) (has_bit (get_or seen.pairs (x / 64) 0) (x % 64)) (ltb x 64) (lt-ltb x 64 h)
 
-pub taken_high : (alone : ℕ) (seen : List ℕ) (x : ℕ) → 64 ≤ x → taken alone seen x ≡ has_bit (get_or seen (x / 64) 0) (x % 64)
+pub taken_high : (seen : Seen) (x : ℕ) → 64 ≤ x → taken seen x ≡ has_bit (get_or seen.pairs (x / 64) 0) (x % 64)
 unfolding taken
-taken_high alone seen x h = if_no (has_bit alone x) (has_bit (get_or seen (x / 64) 0) (x % 64)) (ltb x 64) (le-ltb x 64 h)
+taken_high seen x h = if_no (has_bit seen.states x) (has_bit (get_or seen.pairs (x / 64) 0) (x % 64)) (ltb x 64) (le-ltb x 64 h)
 
-module _ (alone : ℕ) (seen : List ℕ) (even : Even seen) where
-  pub taken_pair : (a b : ℕ) → Places a b → taken alone seen (pack a b) ≡ has_bit (get_or seen a 0) b
-  taken_pair = by_order (λ a b. Places a b → taken alone seen (pack a b) ≡ has_bit (get_or seen a 0) b)
-      (λ a b f h. ap (taken alone seen) (pack_swap b a) ∙ f (turned b a h) ∙ even.same a b h.right_high h.left_high)
+module _ (seen : Seen) where
+  pub taken_pair : (a b : ℕ) → Places a b → taken seen (pack a b) ≡ has_bit (get_or seen.pairs a 0) b
+  taken_pair = by_order (λ a b. Places a b → taken seen (pack a b) ≡ has_bit (get_or seen.pairs a 0) b)
+      (λ a b f h. ap (taken seen) (pack_swap b a) ∙ f (turned b a h) ∙ seen.even a b h.right_high h.left_high)
       (λ a b l h.
       let big : 64 ≤ a * 64 + b = omega arith in
       let left : (a * 64 + b) / 64 ≡ a = omega arith in
       let right : (a * 64 + b) % 64 ≡ b = omega arith in
-      ap (taken alone seen) (pack_more a b l) ∙ taken_high alone seen (a * 64 + b) big ∙ ap₂ (λ i j. has_bit (get_or seen i 0) j) left right)
+      ap (taken seen) (pack_more a b l) ∙ taken_high seen (a * 64 + b) big ∙ ap₂ (λ i j. has_bit (get_or seen.pairs i 0) j) left right)
 
-  module _ (F D S : List ℕ) (x : ℕ) where
+  module _ (t : Steps) (x : ℕ) where
     -- what is found is one step on and not taken up
-    pub fresh : (y : ℕ) → Fresh F D S alone seen x y → Step F D S x y × (taken alone seen y ≡ false)
-    fresh y (new_single {a} l h n) = let p = (goes_parts F x a h).2 in (single l h, taken_low alone seen a (omega arith) ∙ n)
-    fresh y (new_beside {a} {b} p n) = (beside p, taken_pair a b (parts_positions F D S x a b p) ∙ n)
+    pub fresh : (y : ℕ) → Fresh t seen x y → Step t x y × (taken seen y ≡ false)
+    fresh y (new_single {a} l h n) = let p = (goes_parts t.follow x a h).2 in (single l h, taken_low seen a (omega arith) ∙ n)
+    fresh y (new_beside {a} {b} p n) = (beside p, taken_pair a b (parts_positions t x a b p) ∙ n)
 
-    step_fresh : (y : ℕ) → Step F D S x y → taken alone seen y ≡ false → Fresh F D S alone seen x y
-    step_fresh y (single {a} k h) t = let p = (goes_parts F x a h).2 in new_single k h (sym (taken_low alone seen a (omega arith)) ∙ t)
-    step_fresh y (beside {a} {b} p) t = new_beside p (sym (taken_pair a b (parts_positions F D S x a b p)) ∙ t)
+    step_fresh : (y : ℕ) → Step t x y → taken seen y ≡ false → Fresh t seen x y
+    step_fresh y (single {a} k h) e = let p = (goes_parts t.follow x a h).2 in new_single k h (sym (taken_low seen a (omega arith)) ∙ e)
+    step_fresh y (beside {a} {b} p) e = new_beside p (sym (taken_pair a b (parts_positions t x a b p)) ∙ e)
 
     -- where nothing is found, each node one step on is taken up
-    pub spent : {pending : ℕ} {r : Next} (y : ℕ) → Finds F D S alone seen pending x r → 4096 ≤ r.node → IsNode x → Gone F D S seen pending x → Step F D S x y → taken alone seen y ≡ true
-    spent y f l n g s = by_test (taken alone seen y) (λ t. t) (λ t. absurd (f.none l n g y (step_fresh y s t)))
-
-pub fresh_node : (F D S : List ℕ) (alone : ℕ) (seen : List ℕ) (x y : ℕ) → Fresh F D S alone seen x y → IsNode y
-fresh_node F D S alone seen x y (new_single {a} l h n) = one {a = a} (goes_parts F x a h).2
-fresh_node F D S alone seen x y (new_beside {a} {b} p n) = pack_node a b (parts_positions F D S x a b p)
+    pub spent : (y : ℕ) → ((y : ℕ) → Fresh t seen x y → ⊥) → Step t x y → taken seen y ≡ true
+    spent y none s = by_test (taken seen y) (λ e. e) (λ e. absurd (none y (step_fresh y s e)))
 
 -- ---- a free pair, by the word of partners
 
@@ -180,94 +213,141 @@ module _ {to shared seen a own m : ℕ} (p : PartnersOf to shared seen a own m) 
       ∙ and_of ((has_bit to b && has_bit shared b) && not (has_bit seen b)) (has_bit own a || not (eqb a b))
       (and_of (has_bit to b && has_bit shared b) (not (has_bit seen b)) (and_of (has_bit to b) (has_bit shared b) x y) (ap not z)) w
 
-module _ {S seen : List ℕ} {from to own a m : ℕ} (p : PartnersOf to (get_or S a 0) (get_or seen a 0) a own m) {b : ℕ} where
+module _ {S : List ℕ} {seen : Seen} {from to own a m : ℕ} (p : PartnersOf to (get_or S a 0) (get_or seen.pairs a 0) a own m) {b : ℕ} where
   pub partner_free : has_bit from a ≡ true → has_bit m b ≡ true → Free S seen from to own a b
   partner_free l h = let x = partner_parts p b h in record { left = l; right = x.0; share = x.1; new = x.2; apart = x.3 }
 
   -- with an empty word there is none
-  pub free_none : m ≡ 0 → Free S seen from to own a b → ⊥
-  free_none z f = true≢false (sym (partner_of p b f.right f.share f.new f.apart) ∙ ap (λ (x : ℕ). has_bit x b) z ∙ has_none b)
+  pub free_none : ((i : ℕ) → has_bit m i ≡ false) → Free S seen from to own a b → ⊥
+  free_none z f = true≢false (sym (partner_of p b f.right f.share f.new f.apart) ∙ z b)
 
--- those of `from` that a loop has passed have none, so that whoever has one is pending
-pub free_pending : {S seen : List ℕ} {from to own left : ℕ} → Passed from left (λ a. (b : ℕ) → Free S seen from to own a b → ⊥) → (a b : ℕ) → Free S seen from to own a b → has_bit left a ≡ true
-free_pending {left = left} p a b f = by_test (has_bit left a) (λ t. t) (λ t. absurd (p.done a f.left t b f))
+-- those of `from` that a loop has passed have none, so that whoever has one is not below the one at hand
+pub free_pending : {S : List ℕ} {seen : Seen} {from to own left a : ℕ} (n m : ℕ) → Passed from left (λ a. (b : ℕ) → Free S seen from to own a b → ⊥) → LeastOf (has_bit left) a → ((j : ℕ) → has_bit n j ≡ ltb j a) → ((j : ℕ) → has_bit m j ≡ (has_bit from j && not (has_bit n j)))
+    → (c d : ℕ) → Free S seen from to own c d → has_bit m c ≡ true
+free_pending {from = from} {left = left} {a = a} n m p least below is c d f =
+    is c ∙ and_of (has_bit from c) (not (has_bit n c)) f.left (ap not (below c ∙ le-ltb c a high))
+  where
+    high : a ≤ c
+    high = ⊎_elim (λ h. h) (λ h. absurd (p.done c f.left (least.none c h) d f)) (le_or_lt a c)
+
+-- the members of a row are positions
+pub row_positions : {F : List ℕ} {u m : ℕ} → RowOf F u m → (i : ℕ) → has_bit m i ≡ true → (1 ≤ i) × (i ≤ 60)
+row_positions {F} {u} row i h = let p = goes_parts F u i (sym (row.bits i) ∙ h) in (p.1, p.2)
+
+-- and so are those of them that are pending
+pub cut_positions : {F : List ℕ} {u m : ℕ} (pending n : ℕ) → RowOf F u m → ((i : ℕ) → has_bit n i ≡ (has_bit m i && has_bit pending i)) → (i : ℕ) → has_bit n i ≡ true → (1 ≤ i) × (i ≤ 60)
+cut_positions {m = m} pending n row cut i h = row_positions row i (and_parts (has_bit m i) (has_bit pending i) (sym (cut i) ∙ h)).0
 
 -- ---- what is found from a node
 
-pub node_cases : (x : ℕ) → IsNode x → (x ≤ 60) ⊎ ((64 ≤ x) × (x / 64 ≤ 60) × (x % 64 ≤ 60))
-node_cases x (one {a} h) = inl h
-node_cases x (two {a} {b} l m h) = inr (omega arith)
-
--- from what is no node, nothing
-pub find_nothing : {F D S : List ℕ} {alone : ℕ} {seen : List ℕ} {pending x : ℕ} → (IsNode x → ⊥) → Finds F D S alone seen pending x (record { node = 4096; pending = pending })
-find_nothing f = record { some = λ l. absurd (omega arith); none = λ l n. absurd (f n); gone = λ g. g }
-
 -- a state that is not taken up
-pub find_single : {F D S : List ℕ} {alone : ℕ} {seen : List ℕ} {pending x next : ℕ} (new : ℕ) {r : ℕ} → x ≤ 60 → RowOf F x next → ((i : ℕ) → has_bit new i ≡ (has_bit next i && not (has_bit alone i)))
-    → has_bit new r ≡ true → r < 64 → Finds F D S alone seen pending x (record { node = r; pending = pending })
-find_single {alone = alone} {next = next} new {r} h row f k m =
-    let p = and_parts (has_bit next r) (not (has_bit alone r)) (sym (f r) ∙ k) in
-    record { some = λ l. new_single {a = r} (omega arith) (sym (row.bits r) ∙ p.0) (not-true (has_bit alone r) p.1); none = λ l. absurd (omega arith); gone = λ g. g }
+pub find_single : {t : Steps} {seen : Seen} {pending x next : ℕ} (new : ℕ) {r : ℕ} → x ≤ 60 → RowOf t.follow x next → ((i : ℕ) → has_bit new i ≡ (has_bit next i && not (has_bit seen.states i)))
+    → has_bit new r ≡ true → Found t seen pending x (record { node = Together r; pending = pending })
+find_single {t} {seen} {x = x} {next} new {r} h row f k =
+    let p = and_parts (has_bit next r) (not (has_bit seen.states r)) (sym (f r) ∙ k) in
+    record { fresh = new_single {a = r} (omega arith) (sym (row.bits r) ∙ p.0) (not-true (has_bit seen.states r) p.1); fits = (row_positions row r p.0).1; gone = λ g. g }
 
--- a pair that is not taken up, where states are
-find_pair : {F D S : List ℕ} {alone : ℕ} {seen : List ℕ} {pending x all from to own : ℕ} {r : Next} → RowOf F (left_of x) all → ((a : ℕ) → has_bit from a ≡ (has_bit all a && has_bit pending a)) → RowOf F (right_of x) to
-    → ((a : ℕ) → has_bit all a ≡ true → has_bit own a ≡ (leb 64 x || has_bit (get_or D x 0) a)) → ((a : ℕ) → x < 64 → goes F x a ≡ true → has_bit alone a ≡ true) → FindsPair S seen from to own r → Finds F D S alone seen pending x r
-find_pair {F} {D} {S} {alone} {seen} {pending} {x} {all} {from} {to} {own} {r} row cut right q states d = record {
-  some = λ l.
-      let p = d.some l in
-      let a = p.0 in
-      let b = p.1 in
-      let w = p.2 in
+-- a pair that is not taken up, of the sets that were looked at
+module _ (t : Steps) (seen : Seen) (pending : ℕ) {x all from to own : ℕ} (row : RowOf t.follow (left_of x) all) (cut : (a : ℕ) → has_bit from a ≡ (has_bit all a && has_bit pending a)) (right : RowOf t.follow (right_of x) to)
+    (q : (a : ℕ) → has_bit all a ≡ true → has_bit own a ≡ (leb 64 x || has_bit (get_or t.doubles x 0) a)) where
+  -- a new pair one step on is one of those
+  free : Gone t seen pending x → (a b : ℕ) → Parts t x a b → has_bit (get_or seen.pairs a 0) b ≡ false → Free t.shares seen from to own a b
+  free g a b p e =
+      let h = row.bits a ∙ p.left in
+      let k = by_test (has_bit pending a) (λ y. y) (λ y. absurd (true≢false (sym (g a b p y) ∙ e))) in
+      record { left = cut a ∙ and_of (has_bit all a) (has_bit pending a) h k; right = right.bits b ∙ p.right; share = p.share; new = e; apart = ap (λ (y : Bool). y || not (eqb a b)) (q a h) ∙ p.apart }
+
+  find_some : {r : Next} → FoundPair t.shares seen from to own r → Found t seen pending x r
+  find_some d =
+      let a = d.left in
+      let b = d.right in
+      let w = d.free in
       let h = (and_parts (has_bit all a) (has_bit pending a) (sym (cut a) ∙ w.left)).0 in
-      subst (Fresh F D S alone seen x) (sym p.3)
-      (new_beside (record { left = sym (row.bits a) ∙ h; right = sym (right.bits b) ∙ w.right; share = w.share; apart = sym (ap (λ (t : Bool). t || not (eqb a b)) (q a h)) ∙ w.apart }) w.new);
-  none = λ l n g y. none l g y;
-  gone = λ g a b p n. by_test (has_bit (get_or seen a 0) b) (λ t. t) (λ t. absurd (true≢false (sym (d.pending a b (free g a b p t)) ∙ n)));
-}
-  where
-    -- a new pair one step on is one of those that were looked at
-    free : Gone F D S seen pending x → (a b : ℕ) → Parts F D S x a b → has_bit (get_or seen a 0) b ≡ false → Free S seen from to own a b
-    free g a b p e =
-        let h = row.bits a ∙ p.left in
-        let k = by_test (has_bit pending a) (λ t. t) (λ t. absurd (true≢false (sym (g a b p t) ∙ e))) in
-        record { left = cut a ∙ and_of (has_bit all a) (has_bit pending a) h k; right = right.bits b ∙ p.right; share = p.share; new = e; apart = ap (λ (t : Bool). t || not (eqb a b)) (q a h) ∙ p.apart }
+      record {
+        fresh = subst (Fresh t seen x) (sym d.is)
+            (new_beside (record { left = sym (row.bits a) ∙ h; right = sym (right.bits b) ∙ w.right; share = w.share; apart = sym (ap (λ (y : Bool). y || not (eqb a b)) (q a h)) ∙ w.apart }) w.new);
+        fits = d.fits;
+        gone = λ g a b p n. by_test (has_bit (get_or seen.pairs a 0) b) (λ y. y) (λ y. absurd (true≢false (sym (d.pending a b (free g a b p y)) ∙ n)));
+      }
 
-    none : 4096 ≤ r.node → Gone F D S seen pending x → (y : ℕ) → Fresh F D S alone seen x y → ⊥
-    none l g y (new_single {a} k h e) = true≢false (sym (states a k h) ∙ e)
-    none l g y (new_beside {a} {b} p e) = d.none l a b (free g a b p e)
+  find_none : ((a : ℕ) → x < 64 → goes t.follow x a ≡ true → has_bit seen.states a ≡ true) → ((a b : ℕ) → Free t.shares seen from to own a b → ⊥) → Gone t seen pending x → (y : ℕ) → Fresh t seen x y → ⊥
+  find_none states none g y (new_single {a} k h e) = true≢false (sym (states a k h) ∙ e)
+  find_none states none g y (new_beside {a} {b} p e) = none a b (free g a b p e)
 
 -- from a state whose next states are taken up
-pub find_parting : {F D S : List ℕ} {alone : ℕ} {seen : List ℕ} {pending x next from : ℕ} (new : ℕ) {r : Next} → x ≤ 60 → RowOf F x next → ((i : ℕ) → has_bit new i ≡ (has_bit next i && not (has_bit alone i))) → new ≡ 0
-    → ((a : ℕ) → has_bit from a ≡ (has_bit next a && has_bit pending a)) → FindsPair S seen from next (get_or D x 0) r → Finds F D S alone seen pending x r
-find_parting {F} {D} {alone = alone} {x = x} {next} new h row f z cut d =
-    let low : x < 64 = omega arith in
-    find_pair (subst (λ (u : ℕ). RowOf F u next) (sym (left_low x low)) row) cut (subst (λ (u : ℕ). RowOf F u next) (sym (right_low x low)) row)
-    (λ a l. sym (ap (λ (t : Bool). t || has_bit (get_or D x 0) a) (lt-leb 64 x low))) (λ a l g. states a g) d
-  where
-    states : (a : ℕ) → goes F x a ≡ true → has_bit alone a ≡ true
-    states a g =
-        by_test (has_bit alone a) (λ t. t)
-        (λ t. absurd (true≢false (sym (f a ∙ and_of (has_bit next a) (not (has_bit alone a)) (row.bits a ∙ g) (ap not t)) ∙ ap (λ (m : ℕ). has_bit m a) z ∙ has_none a)))
+module _ (t : Steps) {x next : ℕ} (h : x ≤ 60) (row : RowOf t.follow x next) where
+  abbrev ends : (P : ℕ → Type 0) → P x → P (left_of x) × P (right_of x)
+  ends P k = (subst P (sym (left_low x (omega arith))) k, subst P (sym (right_low x (omega arith))) k)
 
--- the members of a row are positions
-pub row_positions : {F : List ℕ} {u m : ℕ} → RowOf F u m → (i : ℕ) → has_bit m i ≡ true → i ≤ 60
-row_positions {F} {u} row i h = (goes_parts F u i (sym (row.bits i) ∙ h)).2
+  abbrev rows : RowOf t.follow (left_of x) next × RowOf t.follow (right_of x) next
+  rows = ends (λ u. RowOf t.follow u next) row
 
--- and so are those of them that are pending
-pub cut_positions : {F : List ℕ} {u m : ℕ} (pending n : ℕ) → RowOf F u m → ((i : ℕ) → has_bit n i ≡ (has_bit m i && has_bit pending i)) → (i : ℕ) → has_bit n i ≡ true → i ≤ 60
-cut_positions {m = m} pending n row cut i h = row_positions row i (and_parts (has_bit m i) (has_bit pending i) (sym (cut i) ∙ h)).0
+  abbrev twice : (a : ℕ) → has_bit next a ≡ true → has_bit (get_or t.doubles x 0) a ≡ (leb 64 x || has_bit (get_or t.doubles x 0) a)
+  twice a l = sym (ap (λ (y : Bool). y || has_bit (get_or t.doubles x 0) a) (lt-leb 64 x (omega arith)))
+
+  module _ (seen : Seen) (pending : ℕ) {from : ℕ} (cut : (a : ℕ) → has_bit from a ≡ (has_bit next a && has_bit pending a)) where
+    pub parting_some : {r : Next} → FoundPair t.shares seen from next (get_or t.doubles x 0) r → Found t seen pending x r
+    parting_some = find_some t seen pending rows.0 cut rows.1 twice
+
+    pub parting_none : (new : ℕ) → ((i : ℕ) → has_bit new i ≡ (has_bit next i && not (has_bit seen.states i))) → ((i : ℕ) → has_bit new i ≡ false)
+        → ((a b : ℕ) → Free t.shares seen from next (get_or t.doubles x 0) a b → ⊥) → Gone t seen pending x → (y : ℕ) → Fresh t seen x y → ⊥
+    parting_none new f z =
+        find_none t seen pending rows.0 cut rows.1 twice
+        (λ a l g.
+        by_test (has_bit seen.states a) (λ y. y)
+        (λ y. absurd (true≢false (sym (f a ∙ and_of (has_bit next a) (not (has_bit seen.states a)) (row.bits a ∙ g) (ap not y)) ∙ z a))))
 
 -- from a pair
-pub find_parted : {F D S : List ℕ} {alone : ℕ} {seen : List ℕ} {pending x all from to : ℕ} {r : Next} → 64 ≤ x → RowOf F (x / 64) all → ((a : ℕ) → has_bit from a ≡ (has_bit all a && has_bit pending a)) → RowOf F (x % 64) to
-    → FindsPair S seen from to (2 ^ 64 - 1) r → Finds F D S alone seen pending x r
-find_parted {F} {D} {x = x} {all} {to = to} high row cut right d =
-    find_pair (subst (λ (u : ℕ). RowOf F u all) (sym (left_high x high)) row) cut (subst (λ (u : ℕ). RowOf F u to) (sym (right_high x high)) right)
-    (λ a l. has_ones 64 a ∙ lt-ltb a 64 (omega (arith, row_positions row a l)) ∙ sym (or_left (leb 64 x) (has_bit (get_or D x 0) a) (le-leb 64 x high))) (λ a l. absurd (omega arith)) d
+module _ (t : Steps) {a b all to : ℕ} (places : Places a b) (row : RowOf t.follow a all) (right : RowOf t.follow b to) where
+  abbrev high : 64 ≤ a * 64 + b
+  high = omega (arith, places)
+
+  abbrev both : RowOf t.follow (left_of (a * 64 + b)) all × RowOf t.follow (right_of (a * 64 + b)) to
+  both =
+      let e : (a * 64 + b) / 64 ≡ a = omega (arith, places) in
+      let f : (a * 64 + b) % 64 ≡ b = omega (arith, places) in
+      (subst (λ (u : ℕ). RowOf t.follow u all) (sym (left_high (a * 64 + b) high ∙ e)) row, subst (λ (u : ℕ). RowOf t.follow u to) (sym (right_high (a * 64 + b) high ∙ f)) right)
+
+  abbrev any : (c : ℕ) → has_bit all c ≡ true → has_bit (2 ^ 64 - 1) c ≡ (leb 64 (a * 64 + b) || has_bit (get_or t.doubles (a * 64 + b) 0) c)
+  any c l =
+      has_ones 64 c ∙ lt-ltb c 64 (omega (arith, row_positions row c l))
+      ∙ sym (or_left (leb 64 (a * 64 + b)) (has_bit (get_or t.doubles (a * 64 + b) 0) c) (le-leb 64 (a * 64 + b) high))
+
+  module _ (seen : Seen) (pending : ℕ) {from : ℕ} (cut : (c : ℕ) → has_bit from c ≡ (has_bit all c && has_bit pending c)) where
+    pub parted_some : {r : Next} → FoundPair t.shares seen from to (2 ^ 64 - 1) r → Found t seen pending (a * 64 + b) r
+    parted_some = find_some t seen pending both.0 cut both.1 any
+
+    pub parted_none : ((c d : ℕ) → Free t.shares seen from to (2 ^ 64 - 1) c d → ⊥) → Gone t seen pending (a * 64 + b) → (y : ℕ) → Fresh t seen (a * 64 + b) y → ⊥
+    parted_none = find_none t seen pending both.0 cut both.1 any (λ c l. absurd (omega (arith, high)))
+
+-- the same from a node as the program holds it; v is what a pattern finds in it
+module _ (t : Steps) (seen : Seen) (pending : ℕ) {x : Node} {u v next : ℕ} (is : x ≡ Together u) (read : v ≡ u) (h : v ≤ 60) (row : RowOf t.follow v next) where
+  pub finds_single : (new m a : ℕ) → ((i : ℕ) → has_bit new i ≡ (has_bit next i && not (has_bit seen.states i))) → m ≡ new → has_bit m a ≡ true → Found t seen pending (number_of x) (record { node = Together a; pending = pending })
+  finds_single new m a f e k =
+      subst (λ (n : ℕ). Found t seen pending n (record { node = Together a; pending = pending })) (read ∙ sym (ap number_of is))
+      (find_single new h row f (ap (λ (s : ℕ). has_bit s a) (sym e) ∙ k))
+
+  pub finds_parting : (new m from : ℕ) → ((i : ℕ) → has_bit new i ≡ (has_bit next i && not (has_bit seen.states i))) → m ≡ new → ((i : ℕ) → has_bit m i ≡ false) → ((a : ℕ) → has_bit from a ≡ (has_bit next a && has_bit pending a))
+      → (r : Option Next) → FindsPair t.shares seen from next (get_or t.doubles v 0) r → Finds t seen pending x r
+  finds_parting new m from f e z cut r d = subst (λ (n : Node). Finds t seen pending n r) (ap Together read ∙ sym is) (of r d)
+    where
+      of : (r : Option Next) → FindsPair t.shares seen from next (get_or t.doubles v 0) r → Finds t seen pending (Together v) r
+      of None d = λ fits g. parting_none t h row seen pending cut new f (λ i. ap (λ (s : ℕ). has_bit s i) (sym e) ∙ z i) d g
+      of (Some q) d = parting_some t h row seen pending cut d
+
+pub finds_parted : (t : Steps) (seen : Seen) (pending : ℕ) {x : Node} {a b c d all to : ℕ} (from : ℕ) → x ≡ Two a b → c ≡ a → d ≡ b → Places c d → RowOf t.follow c all → ((i : ℕ) → has_bit from i ≡ (has_bit all i && has_bit pending i)) → RowOf t.follow d to
+    → (r : Option Next) → FindsPair t.shares seen from to (2 ^ 64 - 1) r → Finds t seen pending x r
+finds_parted t seen pending {c = c} {d} {to = to} from is e f places row cut right r h =
+    subst (λ (n : Node). Finds t seen pending n r) (ap₂ Two e f ∙ sym is) (of r h)
+  where
+    of : (r : Option Next) → FindsPair t.shares seen from to (2 ^ 64 - 1) r → Finds t seen pending (Two c d) r
+    of None h = λ fits g. parted_none t places row right seen pending cut h g
+    of (Some q) h = parted_some t places row right seen pending cut h
 
 -- with all pending, nothing need be known
-pub all_pending : (F D S seen : List ℕ) (x : ℕ) → Gone F D S seen (2 ^ 64 - 1) x
-all_pending F D S seen x a b p n =
-    let l = (parts_positions F D S x a b p).left_high in
+pub all_pending : (t : Steps) (seen : Seen) (x : ℕ) → Gone t seen (2 ^ 64 - 1) x
+all_pending t seen x a b p n =
+    let l = (parts_positions t x a b p).left_high in
     absurd (true≢false (sym (has_ones 64 a ∙ lt-ltb a 64 (omega arith)) ∙ n))
 
 -- ---- a number of its own for each node

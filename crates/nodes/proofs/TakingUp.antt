@@ -1,30 +1,42 @@
 -- Taking a node up: a state in the set, or a pair in both of its rows. Assumes nothing.
-use mathlib.Core.Path.{◌≡◌, sym, ap, ap₂, ◌∙◌}
+use mathlib.Core.Path.{◌≡◌, sym, ap, ap₂, ◌∙◌, subst}
 use mathlib.Core.Logic.{⊎_elim}
-use mathlib.Core.Bool.{Bool, ◌&&◌, ◌||◌, or-false, or_comm, or_assoc, and_comm}
+use mathlib.Core.Bool.{Bool, false, ◌&&◌, ◌||◌, or-false, or_comm, or_assoc, and_comm}
 use mathlib.Core.List.{List}
 use Prim.Native.Nat.{ℕ, ◌+◌, ◌*◌, ◌/◌, ◌%◌, ◌≤◌, ◌<◌}
 use native.Mathlib.Omega.{arith}
 use borrow.Author.Tests.{eq-eqb, ne_eqb, eqb-true}
 use lib.Dec.{eqb}
-use lib.ListN.{get_or, set, length-set}
+use lib.ListN.{get_or, set, length, length-set, replicate}
 use lib.Seq.{get_or-set_same, get_or-set_other}
 use Rattle.basics.proofs.Tests.{and_parts, and_of, or_left, or_cases, le_or_lt, by_equal, same_test}
+use Rattle.basics.proofs.Lists.{zeros}
 use Rattle.bits.specs.Bits.{has_bit}
-use Rattle.nodes.specs.Nodes.{IsNode, one, two, taken, Even, TakenUp}
+use Rattle.bits.proofs.Laws.{has_none}
+use Rattle.nodes.specs.declared.Node.{Node}
+use Rattle.nodes.specs.declared.Node.TheVariants.{Together, Parted as Two}
+use Rattle.nodes.specs.declared.Seen.{Seen}
+use Rattle.nodes.specs.Nodes.{IsNode, one, two, number_of, Fits}
+use Rattle.nodes.specs.Taken.{taken, OneTaken, TakenUp}
 use Rattle.nodes.proofs.Nodes.{taken_low, taken_high}
 
-pub take_state : (seen : List ℕ) (alone y m : ℕ) → y < 64 → ((j : ℕ) → has_bit m j ≡ (has_bit alone j || eqb y j)) → TakenUp seen seen alone y m
-take_state seen alone y m l h = record {
-  takes = λ even z n.
+take_state : (seen seen' : Seen) (y : ℕ) → y < 64 → seen'.pairs ≡ seen.pairs → ((j : ℕ) → has_bit seen'.states j ≡ (has_bit seen.states j || eqb y j)) → TakenUp seen seen' y
+take_state seen seen' y l same h = record {
+  takes = λ z n.
       ⊎_elim
-      (λ k. taken_high m seen z k ∙ sym (ap₂ ◌||◌ (taken_high alone seen z k) (ne_eqb y z (λ e. omega arith)) ∙ or-false (has_bit (get_or seen (z / 64) 0) (z % 64))))
-      (λ k. taken_low m seen z k ∙ h z ∙ sym (ap (λ (t : Bool). t || eqb y z) (taken_low alone seen z k)))
+      (λ k. taken_high seen' z k ∙ ap (λ (s : List ℕ). has_bit (get_or s (z / 64) 0) (z % 64)) same ∙ sym (ap₂ ◌||◌ (taken_high seen z k) (ne_eqb y z (λ e. omega arith)) ∙ or-false (has_bit (get_or seen.pairs (z / 64) 0) (z % 64))))
+      (λ k. taken_low seen' z k ∙ h z ∙ sym (ap (λ (t : Bool). t || eqb y z) (taken_low seen z k)))
       (le_or_lt 64 z);
-  even = λ even. even;
 }
 
 -- ---- a pair, in both rows
+
+-- row a has b where row b has a
+abbrev pub EvenRows : List ℕ → Type 0
+EvenRows rows = (a b : ℕ) → a ≤ 60 → b ≤ 60 → has_bit (get_or rows a 0) b ≡ has_bit (get_or rows b 0) a
+
+pub no_pairs : (a b : ℕ) → has_bit (get_or (replicate 61 0) a 0) b ≡ false
+no_pairs a b = ap (λ (x : ℕ). has_bit x b) (zeros 61 a) ∙ has_none b
 
 -- c and d are a and b, in either order
 abbrev hit : ℕ → ℕ → ℕ → ℕ → Bool
@@ -47,7 +59,7 @@ hit_same a b c d l m k n =
     let y : c ≡ (c * 64 + d) / 64 = omega arith in
     or_left (eqb a c && eqb b d) (eqb b c && eqb a d) (and_of (eqb a c) (eqb b d) (eq-eqb a c (x ∙ ap (λ (z : ℕ). z / 64) e ∙ sym y)) (eq-eqb b d (omega (arith, x ∙ ap (λ (z : ℕ). z / 64) e ∙ sym y)))))
 
-module _ (seen : List ℕ) (a b m n : ℕ) (even : Even seen) (l : a ≤ 60) (k : b ≤ 60) (row : (j : ℕ) → has_bit m j ≡ (has_bit (get_or seen a 0) j || eqb b j))
+module _ (seen : List ℕ) (a b m n : ℕ) (size : length seen ≡ 61) (even : EvenRows seen) (l : a ≤ 60) (k : b ≤ 60) (row : (j : ℕ) → has_bit m j ≡ (has_bit (get_or seen a 0) j || eqb b j))
     (other : (j : ℕ) → has_bit n j ≡ (has_bit (get_or (set seen a m) b 0) j || eqb a j)) where
   rows : (c d : ℕ) → has_bit (get_or (set (set seen a m) b n) c 0) d ≡ (has_bit (get_or seen c 0) d || hit a b c d)
   rows c d =
@@ -76,32 +88,49 @@ module _ (seen : List ℕ) (a b m n : ℕ) (even : Even seen) (l : a ≤ 60) (k 
       ap (λ (v : ℕ). has_bit v d) (get_or-set_other seen a c m 0 y) ∙ sym (or-false x)
       ∙ ap (λ (t : Bool). x || t) (sym (ap₂ (λ (s t : Bool). (s && eqb b d) || (t && eqb a d)) (ne_eqb a c (λ q. y (sym q))) (ne_eqb b c (λ q. z (sym q)))))))
 
-  pub rows_even : Even (set (set seen a m) b n)
-  rows_even = record {
-    size = length-set (set seen a m) b n ∙ length-set seen a m ∙ even.size;
-    same = λ c d h g. rows c d ∙ ap₂ ◌||◌ (even.same c d h g) (hit_swap a b c d) ∙ sym (rows d c);
-  }
+  pub rows_even : EvenRows (set (set seen a m) b n)
+  rows_even c d h g = rows c d ∙ ap₂ ◌||◌ (even c d h g) (hit_swap a b c d) ∙ sym (rows d c)
 
-  pub rows_taken : (alone : ℕ) → b ≤ a → 1 ≤ a → (z : ℕ) → IsNode z → taken alone (set (set seen a m) b n) z ≡ (taken alone seen z || eqb (a * 64 + b) z)
-  rows_taken alone h u z (one {a = c} g) =
-      taken_low alone (set (set seen a m) b n) c (omega arith)
-      ∙ sym (ap₂ ◌||◌ (taken_low alone seen c (omega arith)) (ne_eqb (a * 64 + b) c (λ e. omega arith)) ∙ or-false (has_bit alone c))
-  rows_taken alone h u z (two {a = c} {b = d} p q r) =
-      let big : 64 ≤ c * 64 + d = omega arith in
-      let left : (c * 64 + d) / 64 ≡ c = omega arith in
-      let right : (c * 64 + d) % 64 ≡ d = omega arith in
-      taken_high alone (set (set seen a m) b n) (c * 64 + d) big ∙ ap₂ (λ i j. has_bit (get_or (set (set seen a m) b n) i 0) j) left right ∙ rows c d
-      ∙ sym (ap₂ ◌||◌ (taken_high alone seen (c * 64 + d) big ∙ ap₂ (λ i j. has_bit (get_or seen i 0) j) left right) (sym (hit_same a b c d h (omega arith) q (omega arith))))
+-- the pair of a and b, with b of row a and a of row b
+take_pair : (seen seen' : Seen) (a b m n : ℕ) → 1 ≤ b → b ≤ a → a ≤ 60 → seen'.states ≡ seen.states → seen'.pairs ≡ set (set seen.pairs a m) b n → ((j : ℕ) → has_bit m j ≡ (has_bit (get_or seen.pairs a 0) j || eqb b j))
+    → ((j : ℕ) → has_bit n j ≡ (has_bit (get_or (set seen.pairs a m) b 0) j || eqb a j)) → TakenUp seen seen' (a * 64 + b)
+take_pair seen seen' a b m n u h l alone pairs row other = record { takes = takes }
+  where
+    here : (c d : ℕ) → has_bit (get_or seen'.pairs c 0) d ≡ (has_bit (get_or seen.pairs c 0) d || hit a b c d)
+    here c d = ap (λ (s : List ℕ). has_bit (get_or s c 0) d) pairs ∙ rows seen.pairs a b m n seen.size seen.even l (omega arith) row other c d
 
-pub take_pair : (seen : List ℕ) (alone y m n : ℕ) → IsNode y → 64 ≤ y → ((j : ℕ) → has_bit m j ≡ (has_bit (get_or seen (y / 64) 0) j || eqb (y % 64) j))
-    → ((j : ℕ) → has_bit n j ≡ (has_bit (get_or (set seen (y / 64) m) (y % 64) 0) j || eqb (y / 64) j))
-    → TakenUp seen (set (set seen (y / 64) m) (y % 64) n) alone y alone
-take_pair seen alone y m n (one {a} g) h row other = absurd (omega arith)
-take_pair seen alone y m n (two {a} {b} p q r) h row other =
-    let c : ℕ = (a * 64 + b) / 64 in
-    let d : ℕ = (a * 64 + b) % 64 in
-    let e : c * 64 + d ≡ a * 64 + b = omega arith in
-    record {
-      takes = λ even z k. rows_taken seen c d m n even (omega arith) (omega arith) row other alone (omega arith) (omega arith) z k ∙ ap (λ (x : ℕ). taken alone seen z || eqb x z) e;
-      even = λ even. rows_even seen c d m n even (omega arith) (omega arith) row other;
-    }
+    takes : (z : ℕ) → IsNode z → taken seen' z ≡ (taken seen z || eqb (a * 64 + b) z)
+    takes z (one {a = c} g) =
+        taken_low seen' c (omega arith) ∙ ap (λ (s : ℕ). has_bit s c) alone
+        ∙ sym (ap₂ ◌||◌ (taken_low seen c (omega arith)) (ne_eqb (a * 64 + b) c (λ e. omega arith)) ∙ or-false (has_bit seen.states c))
+    takes z (two {a = c} {b = d} p q r) =
+        let big : 64 ≤ c * 64 + d = omega arith in
+        let left : (c * 64 + d) / 64 ≡ c = omega arith in
+        let right : (c * 64 + d) % 64 ≡ d = omega arith in
+        taken_high seen' (c * 64 + d) big ∙ ap₂ (λ i j. has_bit (get_or seen'.pairs i 0) j) left right ∙ here c d
+        ∙ sym (ap₂ ◌||◌ (taken_high seen (c * 64 + d) big ∙ ap₂ (λ i j. has_bit (get_or seen.pairs i 0) j) left right) (sym (hit_same a b c d h (omega arith) q (omega arith))))
+
+-- ---- a node that the program holds
+
+pub took_state : (seen seen' : Seen) (n : Node) (a : ℕ) → Fits n → n ≡ Together a → seen'.pairs ≡ seen.pairs → ((j : ℕ) → has_bit seen'.states j ≡ (has_bit seen.states j || eqb a j)) → TakenUp seen seen' (number_of n)
+took_state seen seen' n a fits is same h =
+    let low = subst Fits is fits in
+    subst (λ (m : Node). TakenUp seen seen' (number_of m)) (sym is) (take_state seen seen' a (omega arith) same h)
+
+pub took_pair : (seen seen' : Seen) (n : Node) (a b m k : ℕ) → Fits n → n ≡ Two a b → seen'.states ≡ seen.states → seen'.pairs ≡ set (set seen.pairs a m) b k → ((j : ℕ) → has_bit m j ≡ (has_bit (get_or seen.pairs a 0) j || eqb b j))
+    → ((j : ℕ) → has_bit k j ≡ (has_bit (get_or (set seen.pairs a m) b 0) j || eqb a j)) → TakenUp seen seen' (number_of n)
+took_pair seen seen' n a b m k fits is alone pairs row other =
+    let f = subst Fits is fits in
+    subst (λ (m : Node). TakenUp seen seen' (number_of m)) (sym is) (take_pair seen seen' a b m k f.0 f.1 f.2 alone pairs row other)
+
+-- ---- the first
+
+pub take_first : (x : ℕ) (seen : Seen) → x ≤ 60 → ((j : ℕ) → has_bit seen.states j ≡ eqb x j) → seen.pairs ≡ replicate 61 0 → OneTaken x seen
+take_first x seen l only none = record { takes = takes }
+  where
+    takes : (z : ℕ) → IsNode z → taken seen z ≡ eqb x z
+    takes z (one {a} k) = taken_low seen a (omega arith) ∙ only a
+    takes z (two {a} {b} k m n) =
+        taken_high seen (a * 64 + b) (omega arith)
+        ∙ ap (λ (s : List ℕ). has_bit (get_or s ((a * 64 + b) / 64) 0) ((a * 64 + b) % 64)) none
+        ∙ no_pairs ((a * 64 + b) / 64) ((a * 64 + b) % 64) ∙ sym (ne_eqb x (a * 64 + b) (λ e. omega arith))

@@ -1,115 +1,168 @@
 // The nodes of a search and the steps between them. A node is two paths side by side over one text, in the graph of a pattern's
-// positions, as a number: below 64 a state, where both paths are and have not parted; a * 64 + b, with 1 <= b <= a, where they
-// have parted and are now at a and b. Paths part where they come to different positions, or to one by different links.
+// positions. Paths part where they come to different positions, or to one by different links.
 #![tactic(auto)]
 
-ghost use Rattle.std.specs.Prelude.{◌≡◌, true, not, ◌&&◌, ◌||◌, ℕ, ◌≤◌, ◌<◌, eqb};
+ghost use Rattle.std.specs.Prelude.{◌≡◌, true, not, ◌&&◌, ◌||◌, ℕ, ◌≤◌, ◌<◌, eqb, get_or, length};
 ghost use Rattle.bits.specs.Bits.{has_bit};
-ghost use Rattle.nodes.specs.Nodes.{IsNode, pack, RowOf, PartnersOf, FindsPair, Finds, TakenUp};
+ghost use Rattle.nodes.specs.Nodes.{Fits, number_of, left_side, right_side, Numbered, pack, RowOf, PartnersOf};
 
-// Stands for no node.
-pub const NONE: usize = 4096;
+// Two paths side by side: together at a state, where they have not parted, or parted and at two positions, the greater one first.
+#[derive(Clone, Copy, PartialEq, Eq, Debug)]
+pub enum Node {
+    Together(usize),
+    Parted(usize, usize),
+}
 
-// A node, or NONE, and what is still to be looked at: a pair that is not taken up has its first path at a position of `pending`.
+// The node that stands in a queue as a number: below 64 it is a state, and from there on the greater position * 64 + the other.
+impl From<u16> for Node {
+    ghost from_gives = { Numbered };
+
+    fn from(number: u16) -> Node {
+        let x = number as usize;
+        if x < 64 {
+            return Node::Together(x);
+        }
+        Node::Parted(x / 64, x % 64)
+    }
+}
+
+impl Node {
+    // The node of two paths that have parted and are at a and b.
+    fn parted(a: usize, b: usize) -> Node
+        requires { (1 ≤ a) × (a ≤ 60) × (1 ≤ b) × (b ≤ 60) }
+        ensures { Fits result × (number_of result ≡ pack a b) }
+    {
+        Node::Parted(a.max(b), a.min(b))
+    }
+
+    // The number of a node.
+    pub fn number(self) -> u16
+        requires { Fits self }
+        ensures { result ≡ number_of self }
+    {
+        match self {
+            Node::Together(a) => a as u16,
+            Node::Parted(a, b) => (a * 64 + b) as u16,
+        }
+    }
+
+    // Where the two paths are.
+    pub fn sides(self) -> (usize, usize)
+        ensures { (result.0 ≡ left_side self) × (result.1 ≡ right_side self) }
+    {
+        match self {
+            Node::Together(a) => (a, a),
+            Node::Parted(a, b) => (a, b),
+        }
+    }
+}
+
+// The nodes that a search has taken up: the states in a set, and a pair in both of its rows, so that row a has b and row b has a. So
+// whether a node is new is one bit, and the new partners of a position are one word.
+#[derive(Drop)]
+pub struct Seen {
+    states: u64,
+    pairs: [u64; 61],
+    ghost size: { length pairs ≡ 61 },
+    ghost even: { (a b : ℕ) → a ≤ 60 → b ≤ 60 → has_bit (get_or pairs a 0) b ≡ has_bit (get_or pairs b 0) a },
+}
+
+impl Seen {
+    ghost use Rattle.nodes.specs.Taken.{OneTaken, TakenUp};
+
+    // A state, and no pair.
+    pub fn only(state: usize) -> Seen
+        requires { state ≤ 60 }
+        ensures { OneTaken state result }
+    {
+        Seen {
+            states: bits::only(state),
+            pairs: [0; 61],
+        }
+    }
+
+    // Takes a node up besides.
+    pub fn take_up(&mut self, node: Node)
+        requires { Fits node }
+        ensures { TakenUp self.old self.new (number_of node) }
+    {
+        match node {
+            Node::Together(a) => self.states = bits::with(self.states, a),
+            Node::Parted(a, b) => {
+                self.pairs[a] = bits::with(self.pairs[a], b);
+                self.pairs[b] = bits::with(self.pairs[b], a);
+            }
+        }
+    }
+}
+
+// What a search goes by, in rows of a word: for each state the positions that may come next, and those to which two links or more
+// lead, and for each position those that share a letter with it.
+#[derive(Drop)]
+pub struct Steps {
+    pub follow: [u64; 61],
+    pub doubles: [u64; 61],
+    pub shares: [u64; 61],
+}
+
+// A node that is not taken up, and what is still to be looked at: a pair that is not taken up has its first path at a position of
+// `pending`.
 #[derive(Clone, Copy)]
 pub struct Next {
-    pub node: usize,
+    pub node: Node,
     pub pending: u64,
 }
 
-// A node one step on from x that is not taken up. Where x is no node there is none. Of pairs, only those whose first path comes to a
-// position of `pending` are looked at.
-pub fn next_new<'a>(
-    follow: &'a [u64; 61],
-    doubles: &'a [u64; 61],
-    shares: &'a [u64; 61],
-    seen: &'a [u64; 61],
-    alone: u64,
-    pending: u64,
-    x: usize,
-) -> Next
-    ensures { Finds follow.now doubles.now shares.now alone seen.now pending x result }
-{
-    if x <= 60 {
-        let next = row(follow, x);
-        let new = bits::difference(next, alone);
-        if new != 0 {
-            let node = bits::lowest(new);
-            return Next { node, pending };
+impl Steps {
+    ghost use Rattle.nodes.specs.Taken.{FindsPair, Finds};
+
+    // A node one step on from x that is not taken up. Where x is no node there is none. Of pairs, only those whose first path comes to
+    // a position of `pending` are looked at.
+    pub fn next_new(&self, seen: &Seen, pending: u64, x: Node) -> Option<Next>
+        ensures { Finds self.now seen.now pending x result }
+    {
+        match x {
+            Node::Together(u @ 0..=60) => {
+                let next = self.row(u);
+                let new = bits::difference(next, seen.states);
+                if let Some(a) = bits::members(new).next() {
+                    let node = Node::Together(a);
+                    return Some(Next { node, pending });
+                }
+                let from = bits::intersection(next, pending);
+                self.new_pair(seen, from, next, self.doubles[u])
+            }
+            Node::Parted(a @ 1..=60, b @ 1..=60) => {
+                let from = bits::intersection(self.row(a), pending);
+                self.new_pair(seen, from, self.row(b), u64::MAX)
+            }
+            _ => None,
         }
-        let from = bits::intersection(next, pending);
-        return new_pair(shares, seen, from, next, doubles[x]);
     }
-    let a = x / 64;
-    let b = x % 64;
-    if x < 64 {
-        return Next {
-            node: NONE,
-            pending,
-        };
-    }
-    if 60 < a {
-        return Next {
-            node: NONE,
-            pending,
-        };
-    }
-    if 60 < b {
-        return Next {
-            node: NONE,
-            pending,
-        };
-    }
-    let from = bits::intersection(row(follow, a), pending);
-    new_pair(shares, seen, from, row(follow, b), u64::MAX)
-}
 
-// Takes the node y up besides: a state in the set of states, which it gives, a pair in both of its rows, so that row a has b and
-// row b has a. So whether a node is new is one bit, and the new partners of a position are one word.
-pub fn take_up(seen: &mut [u64; 61], alone: u64, y: usize) -> u64
-    requires { IsNode y }
-    ensures { TakenUp seen.old seen.new alone y result }
-{
-    if y < 64 {
-        return bits::with(alone, y);
+    // The positions that may come next at a state.
+    fn row(&self, u: usize) -> u64
+        requires { u ≤ 60 }
+        ensures { RowOf self.now.follow u result }
+    {
+        bits::intersection(self.follow[u], bits::span(1, 61))
     }
-    let a = y / 64;
-    let b = y % 64;
-    seen[a] = bits::with(seen[a], b);
-    seen[b] = bits::with(seen[b], a);
-    alone
-}
 
-// The positions that may come next at a state.
-fn row(follow: &[u64; 61], u: usize) -> u64
-    requires { u ≤ 60 }
-    ensures { RowOf follow.now u result }
-{
-    bits::intersection(follow[u], bits::span(1, 61))
-}
-
-// A pair that is not taken up, of a position of `from` and one of `to`; of a position and itself only where `own` has it. Those of
-// `from` that have none are pending no more.
-fn new_pair<'a>(shares: &'a [u64; 61], seen: &'a [u64; 61], from: u64, to: u64, own: u64) -> Next
-    requires { ((i : ℕ) → has_bit from i ≡ true → i ≤ 60) × ((i : ℕ) → has_bit to i ≡ true → i ≤ 60) }
-    ensures { FindsPair shares.now seen.now from to own result }
-{
-    let mut left = from;
-    while left != 0 {
-        let a = bits::lowest(left);
-        let new = partners(to, shares[a], seen[a], a, own);
-        if new != 0 {
-            let node = pair(a, bits::lowest(new));
-            return Next {
-                node,
-                pending: left,
-            };
+    // A pair that is not taken up, of a position of `from` and one of `to`; of a position and itself only where `own` has it. Those of
+    // `from` before it have none, and are pending no more.
+    fn new_pair(&self, seen: &Seen, from: u64, to: u64, own: u64) -> Option<Next>
+        requires { ((i : ℕ) → has_bit from i ≡ true → (1 ≤ i) × (i ≤ 60)) × ((i : ℕ) → has_bit to i ≡ true → (1 ≤ i) × (i ≤ 60)) }
+        ensures { FindsPair self.now.shares seen.now from to own result }
+    {
+        for a in bits::members(from) {
+            let new = partners(to, self.shares[a], seen.pairs[a], a, own);
+            if let Some(b) = bits::members(new).next() {
+                let node = Node::parted(a, b);
+                let pending = bits::difference(from, bits::below(a));
+                return Some(Next { node, pending });
+            }
         }
-        left = bits::rest(left);
-    }
-    Next {
-        node: NONE,
-        pending: left,
+        None
     }
 }
 
@@ -131,15 +184,4 @@ fn others(set: u64, i: usize, own: u64) -> u64
     ensures { (j : ℕ) → has_bit result j ≡ (has_bit set j && (has_bit own i || not (eqb i j))) }
 {
     bits::difference(set, bits::difference(bits::only(i), own))
-}
-
-// The node of the parted pair of a and b.
-fn pair(a: usize, b: usize) -> usize
-    requires { (a ≤ 60) × (b ≤ 60) }
-    ensures { (result ≡ pack a b) × (result < 4096) }
-{
-    if a < b {
-        return b * 64 + a;
-    }
-    a * 64 + b
 }
