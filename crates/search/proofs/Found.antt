@@ -9,7 +9,7 @@ use native.Mathlib.Nat.{le_refl}
 use native.Mathlib.Omega.{arith}
 use borrow.Author.Tests.{lt-ltb, le-ltb}
 use lib.Dec.{ltb}
-use lib.ListN.{replicate}
+use lib.ListN.{get_or, replicate}
 use Rattle.basics.specs.Lists.{Each, Apart, end_of, Chain}
 use Rattle.basics.proofs.Tests.{and_parts, by_test, if_yes, if_no}
 use Rattle.basics.proofs.Lists.{zeros, map_end, pigeon}
@@ -27,24 +27,19 @@ use Rattle.verdict.proofs.Flags.{Node, node, start, pairs, Moves, Met, number_of
 use Rattle.verdict.proofs.Parting.{parts_goal, goal_parts}
 use Rattle.search.specs.declared.Goal.{Goal}
 use Rattle.search.specs.declared.Search.{Search}
-use Rattle.shares.specs.Tables.{Rows, Doubles, Shares}
-use Rattle.nodes.specs.Nodes.{pack, left_of, right_of, Step, single, beside, taken}
-use Rattle.search.specs.Search.{queue, is_goal, SoundQueue, Searched}
+use Rattle.shares.specs.Tables.{Rows, Tables}
+use Rattle.nodes.specs.declared.Steps.{Steps}
+use Rattle.nodes.specs.Nodes.{pack, left_of, right_of, Step, single, beside}
+use Rattle.nodes.specs.Taken.{taken}
+use Rattle.search.specs.Search.{queue, is_goal, SoundQueue, Searching, Reached}
 use Rattle.nodes.proofs.Nodes.{sides, left_low, right_low, left_high, right_high}
-use Rattle.search.proofs.Visiting.{complete, way_back}
+use Rattle.search.proofs.Visiting.{goal_low, goal_high, complete, way_back}
 use Rattle.search.proofs.Moves.{letter_swap, code_of, code, Held, moved_held, positions, lift_chain, drop_chain}
 
 -- ---- goals
 
-pub goal_low : (goal : Goal) (x : ℕ) → x < 64 → is_goal goal x ≡ (not goal.parted && has_bit goal.mask x)
-unfolding is_goal
-goal_low goal x h = if_yes (not goal.parted && has_bit goal.mask x) (has_bit goal.mask (x / 64) && has_bit goal.mask (x % 64)) (ltb x 64) (lt-ltb x 64 h)
-
-goal_high : (goal : Goal) (x : ℕ) → 64 ≤ x → is_goal goal x ≡ (has_bit goal.mask (left_of x) && has_bit goal.mask (right_of x))
-unfolding is_goal
-goal_high goal x h =
-    if_no (not goal.parted && has_bit goal.mask x) (has_bit goal.mask (x / 64) && has_bit goal.mask (x % 64)) (ltb x 64) (le-ltb x 64 h)
-    ∙ sym (ap₂ (λ a b. has_bit goal.mask a && has_bit goal.mask b) (left_high x h) (right_high x h))
+goal_sides : (goal : Goal) (x : ℕ) → 64 ≤ x → is_goal goal x ≡ (has_bit goal.mask (left_of x) && has_bit goal.mask (right_of x))
+goal_sides goal x h = goal_high goal x h ∙ sym (ap₂ (λ a b. has_bit goal.mask a && has_bit goal.mask b) (left_high x h) (right_high x h))
 
 -- the letter shown of a node
 abbrev pub letter_of : Graph → ℕ → ℕ
@@ -55,33 +50,29 @@ both_in m c d = has_bit m c && has_bit m d
 
 -- ---- a search that is over
 
-module _ {F D S s : List ℕ} {goal : Goal} {u : ℕ} {w : Search} (over : Searched F D S s goal u w) where
-  pub found_way : w.found ≡ true → Way (Step F D S) u (queue s (w.tail - 1))
-  found_way e =
-      let r = over.searching.sound.queue in
-      let i = w.tail - 1 in
-      subst (λ (x : ℕ). Way (Step F D S) x (queue s i)) over.searching.first
-      (way_back r i i (le_refl i) (omega arith) (queue s i) (record { nodes = []; goes = tt; ends = refl }))
+pub found_way : {steps : Steps} {s : List ℕ} {goal : Goal} {u i : ℕ} → Reached steps s goal u i → Way (Step steps) u (queue s i)
+found_way {steps} {s} {i = i} r =
+    subst (λ (x : ℕ). Way (Step steps) x (queue s i)) r.first
+    (way_back r.sound i i (le_refl i) r.low (queue s i) (record { nodes = []; goes = tt; ends = refl }))
 
-  -- no chain leads to a goal
-  pub none_found : w.found ≡ false → (c : List ℕ) → Chain (Step F D S) u c → is_goal goal (end_of u c) ≡ false
-  none_found e c h =
-      let r = over.searching.sound.queue in
-      let done = subst (λ (n : ℕ). SoundQueue (Step F D S) (taken w.alone over.seen) s n w.tail) (over.over e) r in
-      let first = over.searching.first in
-      let q = complete done c 0 r.begun (subst (λ (x : ℕ). Chain (Step F D S) x c) (sym first) h) in
-      ap (λ (x : ℕ). is_goal goal (end_of x c)) (sym first) ∙ ap (is_goal goal) (sym q.is) ∙ over.searching.none e q.at q.low
+-- no chain leads to a goal
+pub none_found : {steps : Steps} {s : List ℕ} {goal : Goal} {u : ℕ} {w : Search} → Searching steps s goal u w → w.head ≡ w.tail → (c : List ℕ) → Chain (Step steps) u c → is_goal goal (end_of u c) ≡ false
+none_found {steps} {s} {goal} {u} {w} h over c k =
+    let r = h.sound.queue in
+    let done = subst (λ (n : ℕ). SoundQueue (Step steps) (taken w.seen) s n w.tail) over r in
+    let q = complete done c 0 r.begun (subst (λ (x : ℕ). Chain (Step steps) x c) (sym h.first) k) in
+    ap (λ (x : ℕ). is_goal goal (end_of x c)) (sym h.first) ∙ ap (is_goal goal) (sym q.is) ∙ h.none q.at q.low
 
 -- ---- two paths
 
-module _ {g : Graph} {F D S : List ℕ} (rows : Rows g F) (db : Doubles g D) (sh : Shares g S) where
+module _ {g : Graph} {steps : Steps} (tables : Tables g steps) where
   goal_code : (goal : Goal) → goal.parted ≡ true → (f : Bool) (t : Pair) → Held g f t → is_goal goal (code_of f t) ≡ (f && both_in goal.mask t.left t.right)
   goal_code goal p false t h = goal_low goal t.left (omega (arith, h.1)) ∙ ap (λ (x : Bool). not x && has_bit goal.mask t.left) p
   goal_code goal p true t h =
       let x = pack t.left t.right in
       let m = goal.mask in
-      let d = sides t.left t.right (positions rows db sh t.left t.right h.0 h.1) in
-      goal_high goal x d.high
+      let d = sides t.left t.right (positions tables t.left t.right h.0 h.1) in
+      goal_sides goal x d.high
       ∙ ⊎_elim (λ e. ap₂ (both_in m) e.0 e.1) (λ e. ap₂ (both_in m) e.0 e.1 ∙ and_comm (has_bit m t.right) (has_bit m t.left)) d.sides
 
   held_end : (u : ℕ) (c : List Node) → u ≤ g.positions → Chain (Moves g) (start u) c → Held g (end_of (start u) c).parted (end_of (start u) c).at
@@ -96,9 +87,9 @@ module _ {g : Graph} {F D S : List ℕ} (rows : Rows g F) (db : Doubles g D) (sh
     pub ends : end_of (start u) nodes ≡ node to true
     pub passes : both_in goal.mask to.left to.right ≡ true
 
-  pub parted : (goal : Goal) → goal.parted ≡ true → (u : ℕ) → u ≤ g.positions → (ys : List ℕ) → Chain (Step F D S) u ys → is_goal goal (end_of u ys) ≡ true → Parted goal u ys
+  pub parted : (goal : Goal) → goal.parted ≡ true → (u : ℕ) → u ≤ g.positions → (ys : List ℕ) → Chain (Step steps) u ys → is_goal goal (end_of u ys) ≡ true → Parted goal u ys
   parted goal p u l ys h k =
-      let c = lift_chain rows db sh (start u) ys (refl, l) h in
+      let c = lift_chain tables (start u) ys (refl, l) h in
       let z = end_of (start u) c.nodes in
       let end : code z ≡ end_of u ys = sym (map_end code (start u) c.nodes) ∙ ap (end_of u) c.are in
       let both = and_parts z.parted (both_in goal.mask z.at.left z.at.right)
@@ -106,12 +97,12 @@ module _ {g : Graph} {F D S : List ℕ} (rows : Rows g F) (db : Doubles g D) (sh
       record { nodes = c.nodes; goes = c.goes; are = c.are; to = z.at; ends = λ i. record { at = z.at; parted = both.0 i }; passes = both.1 }
 
   -- what such chains say of `parts_to`
-  pub some_parts : (goal : Goal) → goal.parted ≡ true → (u : ℕ) → u ≤ g.positions → (ys : List ℕ) → Chain (Step F D S) u ys → is_goal goal (end_of u ys) ≡ true → parts_to g u (both_in goal.mask) ≡ true
+  pub some_parts : (goal : Goal) → goal.parted ≡ true → (u : ℕ) → u ≤ g.positions → (ys : List ℕ) → Chain (Step steps) u ys → is_goal goal (end_of u ys) ≡ true → parts_to g u (both_in goal.mask) ≡ true
   some_parts goal p u l ys h k =
       let m = parted goal p u l ys h k in
       goal_parts g u (both_in goal.mask) (record { to = m.to; passes = m.passes; way = record { nodes = m.nodes; goes = m.goes; ends = m.ends } })
 
-  pub none_parts : (goal : Goal) → goal.parted ≡ true → (u : ℕ) → u ≤ g.positions → ((ys : List ℕ) → Chain (Step F D S) u ys → is_goal goal (end_of u ys) ≡ false) → parts_to g u (both_in goal.mask) ≡ false
+  pub none_parts : (goal : Goal) → goal.parted ≡ true → (u : ℕ) → u ≤ g.positions → ((ys : List ℕ) → Chain (Step steps) u ys → is_goal goal (end_of u ys) ≡ false) → parts_to g u (both_in goal.mask) ≡ false
   none_parts goal p u l none =
       by_test (parts_to g u (both_in goal.mask))
       (λ h.
@@ -119,14 +110,11 @@ module _ {g : Graph} {F D S : List ℕ} (rows : Rows g F) (db : Doubles g D) (sh
       let c = k.way.nodes in
       let end : end_of u (map code c) ≡ code (node k.to true) = map_end code (start u) c ∙ ap code k.way.ends in
       let held = subst (λ (n : Node). Held g n.parted n.at) k.way.ends (held_end u c l k.way.goes) in
-      absurd (true≢false (sym (goal_code goal p true k.to held ∙ k.passes) ∙ ap (is_goal goal) (sym end) ∙ none (map code c) (drop_chain rows db sh (start u) c (refl, l) k.way.goes))))
+      absurd (true≢false (sym (goal_code goal p true k.to held ∙ k.passes) ∙ ap (is_goal goal) (sym end) ∙ none (map code c) (drop_chain tables (start u) c (refl, l) k.way.goes))))
       (λ h. h)
 
-  pub found_parts : {s : List ℕ} {goal : Goal} {u : ℕ} {w : Search} → Searched F D S s goal u w → goal.parted ≡ true → u ≤ g.positions → parts_to g u (both_in goal.mask) ≡ w.found
-  found_parts {goal = goal} {u = u} {w = w} over p l =
-      by_test w.found
-      (λ t. let v = found_way over t in some_parts goal p u l v.nodes v.goes (ap (is_goal goal) v.ends ∙ over.searching.some t) ∙ sym t)
-      (λ t. none_parts goal p u l (none_found over t) ∙ sym t)
+  pub reached_parts : {s : List ℕ} {goal : Goal} {u i : ℕ} → Reached steps s goal u i → goal.parted ≡ true → u ≤ g.positions → parts_to g u (both_in goal.mask) ≡ true
+  reached_parts {goal = goal} {u = u} r p l = let v = found_way r in some_parts goal p u l v.nodes v.goes (ap (is_goal goal) v.ends ∙ r.meets)
 
   -- ---- the text
 
@@ -136,7 +124,7 @@ module _ {g : Graph} {F D S : List ℕ} (rows : Rows g F) (db : Doubles g D) (sh
       ap₂ (letter_shown g) (left_low t.left low) (right_low t.left low ∙ h.0)
   letter_code true t h =
       ⊎_elim (λ e. ap₂ (letter_shown g) e.0 e.1) (λ e. ap₂ (letter_shown g) e.0 e.1 ∙ letter_swap g t.right t.left)
-      (sides t.left t.right (positions rows db sh t.left t.right h.0 h.1)).sides
+      (sides t.left t.right (positions tables t.left t.right h.0 h.1)).sides
 
   pub shown_codes : (n : Node) (c : List Node) → Chain (Moves g) n c → map (letter_of g) (map code c) ≡ shown g (lefts (pairs c)) (rights (pairs c))
   shown_codes n [] h = refl
@@ -163,18 +151,19 @@ module _ {g : Graph} {F D S : List ℕ} (rows : Rows g F) (db : Doubles g D) (sh
 
 -- ---- one path
 
-module _ {g : Graph} {F : List ℕ} (rows : Rows g F) where
+module _ {g : Graph} (steps : Steps) (rows : Rows g steps.follow) where
   -- with no letters shared there are no pairs
-  pub chain_route : (D : List ℕ) (u : ℕ) (ys : List ℕ) → Chain (Step F D (replicate 61 0)) u ys → Route g u ys
-  chain_route D u [] h = tt
-  chain_route D u (y ∷ ys) h = let p = one_path u y h.0 in (p.0, p.1, chain_route D y ys h.1)
+  pub chain_route : steps.shares ≡ replicate 61 0 → (u : ℕ) (ys : List ℕ) → Chain (Step steps) u ys → Route g u ys
+  chain_route none u [] h = tt
+  chain_route none u (y ∷ ys) h = let p = one_path u y h.0 in (p.0, p.1, chain_route none y ys h.1)
     where
-      one_path : (u y : ℕ) → Step F D (replicate 61 0) u y → (is_position g y ≡ true) × (next g u y ≡ true)
+      one_path : (u y : ℕ) → Step steps u y → (is_position g y ≡ true) × (next g u y ≡ true)
       one_path u y (single {a} l k) = rows.comes u a k
-      one_path u y (beside {a} {b} p) = absurd (false≢true (sym (ap (λ (x : ℕ). has_bit x b) (zeros 61 a) ∙ has_none b) ∙ p.share))
+      one_path u y (beside {a} {b} p) =
+          absurd (false≢true (sym (ap (λ (r : List ℕ). has_bit (get_or r a 0) b) none ∙ ap (λ (x : ℕ). has_bit x b) (zeros 61 a) ∙ has_none b) ∙ p.share))
 
-  pub route_chain : (D S : List ℕ) (u : ℕ) (ys : List ℕ) → u < 64 → Route g u ys → Chain (Step F D S) u ys
-  route_chain D S u [] l h = tt
-  route_chain D S u (y ∷ ys) l h =
+  pub route_chain : (u : ℕ) (ys : List ℕ) → u < 64 → Route g u ys → Chain (Step steps) u ys
+  route_chain u [] l h = tt
+  route_chain u (y ∷ ys) l h =
       let p = position_of g y h.0 in
-      (single l (rows.goes_on u y h.0 h.1), route_chain D S y ys (omega arith) h.2)
+      (single l (rows.goes_on u y h.0 h.1), route_chain y ys (omega arith) h.2)

@@ -1,27 +1,33 @@
 -- A search goes on: a node is taken up, the head of the queue is passed, a search is begun; and once it is over, each node that a
 -- chain of steps leads to is taken up. Of the queue's nodes no two are one, so there are at most 1891. Assumes nothing.
-use mathlib.Core.Path.{◌≡◌, refl, sym, ap, ◌∙◌, subst}
+use mathlib.Core.Path.{◌≡◌, refl, sym, ap, ap₂, ◌∙◌, subst}
 use mathlib.Core.Logic.{⊎_elim, inl}
-use mathlib.Core.Bool.{Bool, true, false, ◌||◌, true≢false}
+use mathlib.Core.Bool.{Bool, true, false, not, ◌&&◌, ◌||◌, true≢false}
 use mathlib.Core.List.{List, [], ◌∷◌}
 use Prim.Native.Nat.{ℕ, zero, suc, ◌+◌, ◌-◌, ◌*◌, ◌/◌, ◌%◌, ◌^◌, ◌≤◌, ◌<◌}
 use native.Mathlib.Omega.{arith}
-use borrow.Author.Tests.{eq-eqb, ne_eqb, eqb-true}
-use lib.Dec.{eqb}
+use borrow.Author.Tests.{lt-ltb, le-ltb, eq-eqb, ne_eqb, eqb-true}
+use lib.Dec.{eqb, ltb}
+use Rattle.std.specs.Prelude.{None}
 use lib.ListN.{get_or, set, length, take, length-set, replicate}
 use lib.Seq.{get_or-set_same, get_or-set_other, get_or-take, length-take-le}
 use Rattle.basics.specs.Lists.{end_of, Chain}
-use Rattle.basics.proofs.Tests.{or_left, or_right, or_cases, by_equal}
+use Rattle.basics.proofs.Tests.{if_yes, if_no, or_left, or_right, or_cases, by_equal}
 use Rattle.basics.proofs.Lists.{zeros, each_at, apart_at, pigeon}
 use Rattle.bits.specs.Bits.{has_bit}
 use Rattle.bits.proofs.Laws.{has_none}
 use Rattle.verdict.proofs.Chains.{Way}
 use Rattle.search.specs.declared.Goal.{Goal}
 use Rattle.search.specs.declared.Search.{Search}
-use Rattle.nodes.specs.Nodes.{IsNode, one, two, pack, Step, taken, Even, Gone, Finds, TakenUp}
 use Rattle.nodes.specs.declared.Next.{Next}
-use Rattle.search.specs.Search.{queue, back_of, Queued, SoundQueue, SoundSearch, enqueue, is_goal, Visited, Searching}
-use Rattle.nodes.proofs.Nodes.{number, node_low, node_told, step_node, parts_positions, pack_node, taken_low, taken_high, taken_pair, fresh, spent, all_pending}
+use Rattle.nodes.specs.declared.Node.{Node}
+use Rattle.nodes.specs.declared.Node.TheVariants.{Together, Parted as Two}
+use Rattle.nodes.specs.declared.Seen.{Seen}
+use Rattle.nodes.specs.declared.Steps.{Steps}
+use Rattle.nodes.specs.Nodes.{IsNode, one, pack, number_of, Fits, Numbered, Step}
+use Rattle.nodes.specs.Taken.{taken, OneTaken, TakenUp, Fresh, Gone, Found, Finds}
+use Rattle.search.specs.Search.{queue, back_of, Queued, SoundQueue, SoundSearch, enqueue, is_goal, Begun, TookUp, Ended, Searching, Reached}
+use Rattle.nodes.proofs.Nodes.{number, node_low, node_told, numbered_fits, step_node, parts_positions, pack_node, taken_pair, fresh, spent, all_pending}
 
 -- ---- the queue after a node is taken up
 
@@ -164,87 +170,153 @@ begun E T s x long node takes =
       closed = λ i l. absurd (omega arith);
     }
 
--- ---- over rows
+-- ---- goals
 
--- what is taken up besides leaves gone what was
-gone_on : (F D S : List ℕ) {seen seen' : List ℕ} {alone y m : ℕ} (pending x : ℕ) → Even seen → TakenUp seen seen' alone y m → Gone F D S seen pending x → Gone F D S seen' pending x
-gone_on F D S {seen} {seen'} {alone} {y} {m} pending x even up g a b p n =
-    let h = parts_positions F D S x a b p in
-    let z = pack a b in
-    sym (taken_pair m seen' (up.even even) a b h) ∙ up.takes even z (pack_node a b h) ∙ or_left (taken alone seen z) (eqb y z) (taken_pair alone seen even a b h ∙ g a b p n)
+pub goal_low : (goal : Goal) (x : ℕ) → x < 64 → is_goal goal x ≡ (not goal.parted && has_bit goal.mask x)
+unfolding is_goal
+goal_low goal x h = if_yes (not goal.parted && has_bit goal.mask x) (has_bit goal.mask (x / 64) && has_bit goal.mask (x % 64)) (ltb x 64) (lt-ltb x 64 h)
 
-module _ {F D S s : List ℕ} {h t alone pending : ℕ} {seen : List ℕ} (sound : SoundSearch F D S s h t alone pending seen) where
-  pub few_taken : t ≤ 1891
-  few_taken = few_nodes sound.queue
+pub goal_high : (goal : Goal) (x : ℕ) → 64 ≤ x → is_goal goal x ≡ (has_bit goal.mask (x / 64) && has_bit goal.mask (x % 64))
+unfolding is_goal
+goal_high goal x h = if_no (not goal.parted && has_bit goal.mask x) (has_bit goal.mask (x / 64) && has_bit goal.mask (x % 64)) (ltb x 64) (le-ltb x 64 h)
 
-  pub passed_on : h < t → {r : Next} → Finds F D S alone seen pending (queue s h) r → 4096 ≤ r.node → SoundSearch F D S s (h + 1) t alone (2 ^ 64 - 1) seen
-  passed_on l {r} f k = record {
-    queue = passed sound.queue l (λ y q. (step_node F D S (queue s h) y q, spent alone seen sound.even F D S (queue s h) y f k (sound.queue.nodes h l) sound.gone q));
-    even = sound.even;
-    gone = all_pending F D S seen (queue s (h + 1));
-  }
+-- of a node as the program holds it
+pub goal_together : (goal : Goal) {n : Node} {a : ℕ} {r : Bool} → Fits n → n ≡ Together a → r ≡ has_bit goal.mask a → (not goal.parted && r) ≡ is_goal goal (number_of n)
+goal_together goal {a = a} fits is e =
+    let low = subst Fits is fits in
+    ap (λ (x : Bool). not goal.parted && x) e ∙ sym (ap (λ (n : Node). is_goal goal (number_of n)) is ∙ goal_low goal a (omega arith))
 
-  -- what a visit that takes a node up leaves
-  pub took : {s0 s' seen' : List ℕ} {goal : Goal} {r : Next} {m : ℕ} {found : Bool} → s ≡ s0 → h < t → Finds F D S alone seen pending (queue s h) r → r.node < 4096 → s' ≡ enqueue s r.node h t → found ≡ is_goal goal r.node
-      → TakenUp seen seen' alone r.node m → Visited F D S s0 s' seen' goal t (record { head = h; tail = t + 1; found = found; alone = m; pending = r.pending })
-  took {s' = s'} {seen' = seen'} {goal = goal} {r = r} {m = m} same l f k e g up =
-      let y = r.node in
-      let q = fresh alone seen sound.even F D S (queue s h) y (f.some k) in
-      let node = step_node F D S (queue s h) y q.0 in
-      let T' = taken m seen' in
-      let w = enqueued sound.queue T' y l q.0 node q.1 (up.takes sound.even) in
-      let low = few_taken in
-      let old : (i : ℕ) → i < t → queue s' i ≡ queue s i = λ i k. ap (λ (x : List ℕ). queue x i) e ∙ up_before s y h t sound.queue.long (omega arith) i k in
-      let last = up_last s y h t sound.queue.long (omega arith) in
-      record {
-        sound = record {
-          queue = subst (λ (x : List ℕ). SoundQueue (Step F D S) T' x h (t + 1)) (sym e) w;
-          even = up.even sound.even;
-          gone = subst (λ (x : ℕ). Gone F D S seen' r.pending x) (sym (old h l)) (gone_on F D S r.pending (queue s h) sound.even up (f.gone sound.gone));
-        };
-        kept = λ i k. old i k ∙ ap (λ (x : List ℕ). queue x i) same;
-        outcome = inl (refl, g ∙ ap (is_goal goal) (sym (ap (λ (x : List ℕ). queue x t) e ∙ last)));
-      }
+pub goal_parted : (goal : Goal) {n : Node} {a b : ℕ} {r q : Bool} → Fits n → n ≡ Two a b → r ≡ has_bit goal.mask a → q ≡ has_bit goal.mask b → (r && q) ≡ is_goal goal (number_of n)
+goal_parted goal {a = a} {b} fits is e f =
+    let p = subst Fits is fits in
+    let left : (a * 64 + b) / 64 ≡ a = omega (arith, p) in
+    let right : (a * 64 + b) % 64 ≡ b = omega (arith, p) in
+    ap₂ ◌&&◌ e f
+    ∙ sym (ap (λ (n : Node). is_goal goal (number_of n)) is ∙ goal_high goal (a * 64 + b) (omega (arith, p)) ∙ ap₂ (λ (i j : ℕ). has_bit goal.mask i && has_bit goal.mask j) left right)
 
 -- ---- a search
 
--- the first node is all that is taken up
-pub search_begin : (s : List ℕ) (goal : Goal) (start m : ℕ) (found : Bool) → 4096 ≤ length s → start ≤ 60 → ((j : ℕ) → has_bit m j ≡ eqb start j) → found ≡ is_goal goal start
-    → (F D S s' : List ℕ) → s' ≡ enqueue s start 0 0 → Searching F D S s' (replicate 61 0) goal start (record { head = 0; tail = 1; found = found; alone = m; pending = 2 ^ 64 - 1 })
-search_begin s goal start m found long low only g F D S s' e =
-    let first : queue s' 0 ≡ start = ap (λ (x : List ℕ). queue x 0) e ∙ up_last s start 0 0 long (omega arith) in
+-- what is taken up besides leaves gone what was
+gone_on : (steps : Steps) {seen seen' : Seen} {y : ℕ} (pending x : ℕ) → TakenUp seen seen' y → Gone steps seen pending x → Gone steps seen' pending x
+gone_on steps {seen} {seen'} {y} pending x up g a b p n =
+    let h = parts_positions steps x a b p in
+    let z = pack a b in
+    sym (taken_pair seen' a b h) ∙ up.takes z (pack_node a b h) ∙ or_left (taken seen z) (eqb y z) (taken_pair seen a b h ∙ g a b p n)
+
+pub few_taken : {steps : Steps} {s : List ℕ} {w : Search} → SoundSearch steps s w → w.tail ≤ 1891
+few_taken sound = few_nodes sound.queue
+
+-- the head is passed
+pub passed_on : {steps : Steps} {s : List ℕ} {w w' : Search} (x : Node) → SoundSearch steps s w → w.head < w.tail → Numbered (queue s w.head) x → Finds steps w.seen w.pending x None
+    → w'.head ≡ w.head + 1 → w'.tail ≡ w.tail → w'.pending ≡ 2 ^ 64 - 1 → w'.seen ≡ w.seen → SoundSearch steps s w'
+passed_on {steps} {s} {w} {w'} x sound l at none h t p same =
+    let node = numbered_fits (queue s w.head) x (sound.queue.nodes w.head l) at in
+    let gone = subst (Gone steps w.seen w.pending) (sym node.1) sound.gone in
     record {
-      sound = record { queue = subst (λ (x : List ℕ). SoundQueue (Step F D S) (taken m (replicate 61 0)) x 0 1) (sym e) (begun (Step F D S) (taken m (replicate 61 0)) s start long (one {a = start} low) takes); even = none_even; gone = all_pending F D S (replicate 61 0) (queue s' 0) };
-      first = first;
-      some = λ f. ap (is_goal goal) first ∙ sym g ∙ f;
-      none = λ f i l. let z : i ≡ 0 = omega arith in ap (λ (k : ℕ). is_goal goal (queue s' k)) z ∙ ap (is_goal goal) first ∙ sym g ∙ f;
+      queue = subst (λ (n : Seen). SoundQueue (Step steps) (taken n) s w'.head w'.tail) (sym same)
+          (subst (λ (n : ℕ). SoundQueue (Step steps) (taken w.seen) s n w'.tail) (sym h)
+          (subst (λ (n : ℕ). SoundQueue (Step steps) (taken w.seen) s (w.head + 1) n) (sym t)
+          (passed sound.queue l
+          (λ y q. (
+            step_node steps (queue s w.head) y q,
+            spent w.seen steps (queue s w.head) y (subst (λ (n : ℕ). (y : ℕ) → Fresh steps w.seen n y → ⊥) node.1 (none node.0 gone)) q,
+          )))));
+      gone = subst (λ (n : ℕ). Gone steps w'.seen n (queue s w'.head)) (sym p) (all_pending steps w'.seen (queue s w'.head));
     }
-  where
-    row : (a b : ℕ) → has_bit (get_or (replicate 61 0) a 0) b ≡ false
-    row a b = ap (λ (x : ℕ). has_bit x b) (zeros 61 a) ∙ has_none b
 
-    none_even : Even (replicate 61 0)
-    none_even = record { size = refl; same = λ a b l k. row a b ∙ sym (row b a) }
+-- a node is taken up
+pub took : {steps : Steps} {s s' : List ℕ} {w w' : Search} (x : Node) {r : Next} → SoundSearch steps s w → w.head < w.tail → Numbered (queue s w.head) x → Found steps w.seen w.pending (number_of x) r
+    → s' ≡ enqueue s (number_of r.node) w.head w.tail → TakenUp w.seen w'.seen (number_of r.node) → w'.head ≡ w.head → w'.tail ≡ w.tail + 1 → w'.pending ≡ r.pending → TookUp steps s s' w w' w.tail r.node
+took {steps} {s} {s'} {w} {w'} x {r} sound l at f e up h t p =
+    let y = number_of r.node in
+    let is = (numbered_fits (queue s w.head) x (sound.queue.nodes w.head l) at).1 in
+    let q = fresh w.seen steps (queue s w.head) y (subst (λ (n : ℕ). Fresh steps w.seen n y) is f.fresh) in
+    let node = step_node steps (queue s w.head) y q.0 in
+    let T' = taken w'.seen in
+    let low = few_taken sound in
+    let old : (i : ℕ) → i < w.tail → queue s' i ≡ queue s i = λ i k. ap (λ (x : List ℕ). queue x i) e ∙ up_before s y w.head w.tail sound.queue.long (omega arith) i k in
+    let last = up_last s y w.head w.tail sound.queue.long (omega arith) in
+    let gone = subst (λ (n : ℕ). Gone steps w.seen w.pending n → Gone steps w.seen r.pending n) is f.gone sound.gone in
+    record {
+      sound = record {
+        queue = subst (λ (n : ℕ). SoundQueue (Step steps) T' s' n w'.tail) (sym h)
+            (subst (λ (n : ℕ). SoundQueue (Step steps) T' s' w.head n) (sym t)
+            (subst (λ (x : List ℕ). SoundQueue (Step steps) T' x w.head (w.tail + 1)) (sym e) (enqueued sound.queue T' y l q.0 node q.1 up.takes)));
+        gone = subst (λ (n : ℕ). Gone steps w'.seen n (queue s' w'.head)) (sym p)
+            (subst (λ (n : ℕ). Gone steps w'.seen r.pending (queue s' n)) (sym h)
+            (subst (λ (x : ℕ). Gone steps w'.seen r.pending x) (sym (old w.head l)) (gone_on steps r.pending (queue s w.head) up gone)));
+      };
+      kept = old;
+      last = refl;
+      more = t;
+      is = ap (λ (x : List ℕ). queue x w.tail) e ∙ last;
+      fits = f.fits;
+    }
 
-    takes : (z : ℕ) → IsNode z → taken m (replicate 61 0) z ≡ eqb start z
-    takes z (one {a} l) = taken_low m (replicate 61 0) a (omega arith) ∙ only a
-    takes z (two {a} {b} l k n) = taken_high m (replicate 61 0) (a * 64 + b) (omega arith) ∙ row ((a * 64 + b) / 64) ((a * 64 + b) % 64) ∙ sym (ne_eqb start (a * 64 + b) (λ y. omega arith))
+-- after heads that were passed
+pub went_on : {steps : Steps} {s₀ s s' : List ℕ} {w₀ w w' : Search} {i : ℕ} {y : Node} → s ≡ s₀ → w.tail ≡ w₀.tail → TookUp steps s s' w w' i y → TookUp steps s₀ s' w₀ w' i y
+went_on {w = w} {w'} e t v = record {
+  sound = v.sound;
+  kept = λ j l. v.kept j (omega arith) ∙ ap (λ (x : List ℕ). queue x j) e;
+  last = v.last ∙ t;
+  more = omega (arith, v.more);
+  is = v.is;
+  fits = v.fits;
+}
 
-module _ {F D S s s' seen seen' : List ℕ} {goal : Goal} {start : ℕ} {w r : Search} (a : Searching F D S s seen goal start w) (none : w.found ≡ false) (v : Visited F D S s s' seen' goal w.tail r) where
-  pub search_next : Searching F D S s' seen' goal start r
-  search_next =
-      let t = w.tail in
-      let old : (i : ℕ) → i < t → is_goal goal (queue s' i) ≡ false = λ i l. ap (is_goal goal) (v.kept i l) ∙ a.none none i l in
-      record {
-        sound = v.sound;
-        first = v.kept 0 a.sound.queue.begun ∙ a.first;
-        some = λ f.
-            ⊎_elim (λ o. let e : r.tail - 1 ≡ t = omega (arith, o.0) in ap (λ (i : ℕ). is_goal goal (queue s' i)) e ∙ sym o.1 ∙ f) (λ o. absurd (true≢false (sym f ∙ o.2))) v.outcome;
-        none = λ f i l.
-            ⊎_elim (λ o. one_more t (λ i. is_goal goal (queue s' i) ≡ false) old (sym o.1 ∙ f) i (subst (λ (n : ℕ). i < n) o.0 l)) (λ o. old i (omega (arith, o.0))) v.outcome;
-      }
+-- the first node is all that is taken up
+pub search_begin : (s s' : List ℕ) (start : ℕ) (w : Search) → 4096 ≤ length s → start ≤ 60 → s' ≡ enqueue s start 0 0 → OneTaken start w.seen → w.head ≡ 0 → w.tail ≡ 1 → w.pending ≡ 2 ^ 64 - 1 → (steps : Steps) → Begun steps s' start w
+search_begin s s' start w long low e first h t p steps = record {
+  sound = record {
+    queue = subst (λ (n : ℕ). SoundQueue (Step steps) (taken w.seen) s' n w.tail) (sym h)
+        (subst (λ (n : ℕ). SoundQueue (Step steps) (taken w.seen) s' 0 n) (sym t)
+        (subst (λ (x : List ℕ). SoundQueue (Step steps) (taken w.seen) x 0 1) (sym e) (begun (Step steps) (taken w.seen) s start long (one {a = start} low) first.takes)));
+    gone = subst (λ (n : ℕ). Gone steps w.seen n (queue s' w.head)) (sym p) (all_pending steps w.seen (queue s' w.head));
+  };
+  first = ap (λ (x : List ℕ). queue x 0) e ∙ up_last s start 0 0 long (omega arith);
+  one = t;
+}
 
-  -- the measure of a loop of visits
-  pub visit_less : w.head < w.tail → 4000 * (2048 - r.tail) + (r.tail - r.head) < 4000 * (2048 - w.tail) + (w.tail - w.head)
-  visit_less l =
-      ⊎_elim (λ o. let e = o.0 in omega arith) (λ o. let e = o.0 in let f = o.1 in omega arith) v.outcome
+-- a search that has begun, and has no goal yet
+pub search_first : {steps : Steps} {s : List ℕ} {goal : Goal} {start : ℕ} {w : Search} → Begun steps s start w → is_goal goal start ≡ false → Searching steps s goal start w
+search_first {s = s} {goal} b none =
+    record { sound = b.sound; first = b.first; none = λ i l. let z : i ≡ 0 = omega (arith, b.one) in ap (λ (k : ℕ). is_goal goal (queue s k)) z ∙ ap (is_goal goal) b.first ∙ none }
+
+pub begun_found : {steps : Steps} {s : List ℕ} {goal : Goal} {start : ℕ} {w : Search} → Begun steps s start w → is_goal goal start ≡ true → Reached steps s goal start 0
+begun_found {goal = goal} {w = w} b e =
+    record { head = w.head; tail = w.tail; is_taken = taken w.seen; sound = b.sound.queue; first = b.first; low = omega (arith, b.one); meets = ap (is_goal goal) b.first ∙ e }
+
+module _ {steps : Steps} {s s' : List ℕ} {goal : Goal} {start : ℕ} {w w' : Search} (a : Searching steps s goal start w) where
+  -- one more node is taken up
+  module _ {i : ℕ} {y : Node} (v : TookUp steps s s' w w' i y) where
+    first : queue s' 0 ≡ start
+    first = v.kept 0 a.sound.queue.begun ∙ a.first
+
+    -- and is no goal
+    pub search_next : is_goal goal (number_of y) ≡ false → Searching steps s' goal start w'
+    search_next e = record {
+      sound = v.sound;
+      first = first;
+      none = λ j l. one_more w.tail (λ j. is_goal goal (queue s' j) ≡ false) (λ j k. ap (is_goal goal) (v.kept j k) ∙ a.none j k) (ap (λ (k : ℕ). is_goal goal (queue s' k)) (sym v.last) ∙ ap (is_goal goal) v.is ∙ e) j (omega (arith, v.more));
+    }
+
+    -- and is one
+    pub search_found : is_goal goal (number_of y) ≡ true → Reached steps s' goal start i
+    search_found e = record {
+      head = w'.head;
+      tail = w'.tail;
+      is_taken = taken w'.seen;
+      sound = v.sound.queue;
+      first = first;
+      low = omega (arith, v.last, v.more);
+      meets = ap (is_goal goal) v.is ∙ e;
+    }
+
+    -- the measure of a loop of visits
+    pub visit_less : 2048 - w'.tail < 2048 - w.tail
+    visit_less = omega (arith, v.more, v.sound.queue.few)
+
+  -- the search is over
+  pub search_over : Ended steps s s' w w' → Searching steps s' goal start w'
+  search_over v =
+      record { sound = v.sound; first = ap (λ (x : List ℕ). queue x 0) v.kept ∙ a.first; none = λ j l. ap (λ (x : List ℕ). is_goal goal (queue x j)) v.kept ∙ a.none j (omega (arith, v.still)) }

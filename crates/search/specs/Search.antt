@@ -1,10 +1,16 @@
 -- A search under way, breadth first. The queue stands in the lent numbers: the i-th node taken up at i, and at 2048 + i the
 -- queue number of the node before it on the way.
-use Rattle.std.specs.Prelude.{◌≡◌, ◌⊎◌, Bool, true, false, ◌&&◌, not, List, ℕ, ◌+◌, ◌-◌, ◌/◌, ◌%◌, ◌≤◌, ◌<◌, ltb, get_or, length, set, if◌then◌else◌}
+use Rattle.std.specs.Prelude.{◌≡◌, Bool, true, false, ◌&&◌, not, List, ℕ, ◌+◌, ◌/◌, ◌%◌, ◌≤◌, ◌<◌, ltb, get_or, length, set, if◌then◌else◌, Option, None, Some}
+use Rattle.basics.specs.Lists.{end_of, Chain}
 use Rattle.bits.specs.Bits.{has_bit}
+use Rattle.graph.specs.Graph.{Graph}
+use Rattle.verdict.specs.Verdict.{first_pivot}
 use Rattle.search.specs.declared.Goal.{Goal}
 use Rattle.search.specs.declared.Search.{Search}
-use Rattle.nodes.specs.Nodes.{IsNode, Step, taken, Even, Gone}
+use Rattle.nodes.specs.declared.Node.{Node}
+use Rattle.nodes.specs.declared.Steps.{Steps}
+use Rattle.nodes.specs.Nodes.{IsNode, number_of, Fits, Step}
+use Rattle.nodes.specs.Taken.{taken, Gone}
 
 abbrev pub queue : List ℕ → ℕ → ℕ
 queue s i = get_or s i 0
@@ -31,12 +37,10 @@ pub record SoundQueue (E : ℕ → ℕ → Type 0) (is_taken : ℕ → Bool) (s 
   pub back : (i : ℕ) → 0 < i → i < tail → (back_of s i < i) × E (queue s (back_of s i)) (queue s i)
   pub closed : (i : ℕ) → i < head → (y : ℕ) → E (queue s i) y → Queued s tail y
 
--- such a queue for the steps over the rows F, D and S; pairs are taken up in both of their rows, and those one step on from the head are
--- taken up but for what is pending
-pub record SoundSearch (F D S s : List ℕ) (head tail alone pending : ℕ) (seen : List ℕ) : Type 0 where
-  pub queue : SoundQueue (Step F D S) (taken alone seen) s head tail
-  pub even : Even seen
-  pub gone : Gone F D S seen pending (get_or s head 0)
+-- such a queue for the steps of t; the pairs one step on from the head are taken up but for what is pending
+pub record SoundSearch (t : Steps) (s : List ℕ) (w : Search) : Type 0 where
+  pub queue : SoundQueue (Step t) (taken w.seen) s w.head w.tail
+  pub gone : Gone t w.seen w.pending (get_or s w.head 0)
 
 -- the queue with y at its end, taken up from the one at `from`
 unfoldable pub enqueue : List ℕ → ℕ → ℕ → ℕ → List ℕ
@@ -48,26 +52,53 @@ is_goal goal x =
     if ltb x 64 then not goal.parted && has_bit goal.mask x
     else has_bit goal.mask (x / 64) && has_bit goal.mask (x % 64)
 
--- a visit of a search of `tail` nodes: one more is taken up, or the search is over
-pub record Visited (F D S s s' seen' : List ℕ) (goal : Goal) (tail : ℕ) (r : Search) : Type 0 where
-  pub sound : SoundSearch F D S s' r.head r.tail r.alone r.pending seen'
-  pub kept : (i : ℕ) → i < tail → queue s' i ≡ queue s i
-  pub outcome : ((r.tail ≡ tail + 1) × (r.found ≡ is_goal goal (queue s' tail))) ⊎ ((r.tail ≡ tail) × (r.head ≡ r.tail) × (r.found ≡ false))
-
--- a visit of any queue: it takes one node up, or the search is over; where the queue is that of a search, the search goes on
-pub record Tried (F D S s s' seen seen' : List ℕ) (goal : Goal) (w r : Search) : Type 0 where
-  pub ends : (r.tail ≡ w.tail + 1) ⊎ ((r.tail ≡ w.tail) × (r.tail ≤ r.head))
-  pub right : SoundSearch F D S s w.head w.tail w.alone w.pending seen → Visited F D S s s' seen' goal w.tail r
-
--- a search under way: only the last node taken up may be a goal, and `found` says whether it is
-pub record Searching (F D S s seen : List ℕ) (goal : Goal) (start : ℕ) (w : Search) : Type 0 where
-  pub sound : SoundSearch F D S s w.head w.tail w.alone w.pending seen
+-- a search of one node
+pub record Begun (t : Steps) (s : List ℕ) (start : ℕ) (w : Search) : Type 0 where
+  pub sound : SoundSearch t s w
   pub first : queue s 0 ≡ start
-  pub some : w.found ≡ true → is_goal goal (queue s (w.tail - 1)) ≡ true
-  pub none : w.found ≡ false → (i : ℕ) → i < w.tail → is_goal goal (queue s i) ≡ false
+  pub one : w.tail ≡ 1
 
--- a search that is over, with the rows of pairs that it leaves
-pub record Searched (F D S s : List ℕ) (goal : Goal) (start : ℕ) (w : Search) : Type 0 where
-  pub seen : List ℕ
-  pub searching : Searching F D S s seen goal start w
-  pub over : w.found ≡ false → w.head ≡ w.tail
+-- a visit that takes up y, the i-th of the queue, and one that finds the search over
+pub record TookUp (t : Steps) (s s' : List ℕ) (w w' : Search) (i : ℕ) (y : Node) : Type 0 where
+  pub sound : SoundSearch t s' w'
+  pub kept : (j : ℕ) → j < w.tail → queue s' j ≡ queue s j
+  pub last : i ≡ w.tail
+  pub more : w'.tail ≡ w.tail + 1
+  pub is : queue s' i ≡ number_of y
+  pub fits : Fits y
+
+pub record Ended (t : Steps) (s s' : List ℕ) (w w' : Search) : Type 0 where
+  pub sound : SoundSearch t s' w'
+  pub kept : s' ≡ s
+  pub still : w'.tail ≡ w.tail
+  pub over : w'.head ≡ w'.tail
+
+abbrev pub Visited : Steps → List ℕ → List ℕ → Search → Search → Option (ℕ × Node) → Type 0
+Visited t s s' w w' None = Ended t s s' w w'
+Visited t s s' w w' (Some (i, y)) = TookUp t s s' w w' i y
+
+-- a search under way that has taken up no goal
+pub record Searching (t : Steps) (s : List ℕ) (goal : Goal) (start : ℕ) (w : Search) : Type 0 where
+  pub sound : SoundSearch t s w
+  pub first : queue s 0 ≡ start
+  pub none : (i : ℕ) → i < w.tail → is_goal goal (queue s i) ≡ false
+
+-- the i-th node of the queue is a goal
+pub record Reached (t : Steps) (s : List ℕ) (goal : Goal) (start i : ℕ) : Type 0 where
+  pub head : ℕ
+  pub tail : ℕ
+  pub is_taken : ℕ → Bool
+  pub sound : SoundQueue (Step t) is_taken s head tail
+  pub first : queue s 0 ≡ start
+  pub low : i < tail
+  pub meets : is_goal goal (queue s i) ≡ true
+
+-- what a search gives: the queue number of a goal, or None, where no chain of steps leads to one
+abbrev pub Searched : Steps → List ℕ → Goal → ℕ → Option ℕ → Type 0
+Searched t s goal start None = (nodes : List ℕ) → Chain (Step t) start nodes → is_goal goal (end_of start nodes) ≡ false
+Searched t s goal start (Some i) = Reached t s goal start i
+
+-- the first pivot, which is numbered 0 in the rules where there is none
+abbrev pub IsFirstPivot : Graph → Option ℕ → Type 0
+IsFirstPivot g None = first_pivot g ≡ 0
+IsFirstPivot g (Some q) = (0 < q) × (first_pivot g ≡ q)

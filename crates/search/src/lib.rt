@@ -2,23 +2,14 @@
 // finds the first pivot. The steps of a search, and what it holds between them, are private.
 #![tactic(auto)]
 
-ghost use Rattle.std.specs.Prelude.{◌≡◌, List, ℕ, ◌≤◌, ◌<◌, length, replicate};
+ghost use Rattle.std.specs.Prelude.{◌≡◌, ℕ, ◌≤◌, ◌<◌, length};
 ghost use Rattle.graph.specs.Graph.{Graph};
-ghost use Rattle.verdict.specs.Verdict.{first_pivot};
-ghost use Rattle.search.specs.Search.{enqueue, is_goal, Tried, Searching, Searched};
-ghost use Rattle.shares.specs.Tables.{Rows, Doubles, Shares};
+ghost use Rattle.nodes.specs.declared.Steps.{Steps};
+ghost use Rattle.nodes.specs.Nodes.{Fits, number_of};
+ghost use Rattle.search.specs.Search.{enqueue, is_goal, SoundSearch, Begun, Visited, Searched, IsFirstPivot};
+ghost use Rattle.shares.specs.Tables.{Tables};
 
-// A search under way. `head` and `tail` bound the queue of nodes taken up whose steps are still to be gone through. `alone` has the
-// states taken up. The pairs taken up are in rows beside it, `seen`, which are lent and not copied. Of the pairs one step on from the
-// head, those whose first path is at a position outside `pending` are taken up already.
-#[derive(Clone, Copy)]
-pub struct Search {
-    head: usize,
-    pub tail: usize,
-    pub found: bool,
-    alone: u64,
-    pending: u64,
-}
+use nodes::{Node, Seen, Steps};
 
 // Where a search is to end: a parted pair in `mask`, or for a search of one path a state in it.
 #[derive(Clone, Copy)]
@@ -27,145 +18,115 @@ pub struct Goal {
     pub parted: bool,
 }
 
+impl Goal {
+    // Is a node a goal: a pair in the set or, unless the goal is parted, a state in it.
+    fn is_met(self, node: Node) -> bool
+        requires { Fits node }
+        ensures { result ≡ is_goal self (number_of node) }
+    {
+        match node {
+            Node::Together(a) => !self.parted & bits::has(self.mask, a),
+            Node::Parted(a, b) => bits::has(self.mask, a) & bits::has(self.mask, b),
+        }
+    }
+}
+
 // The lent numbers: at i the i-th node taken up, and at BACK + i the queue number of the node that it was taken up from. No two
 // nodes are one and there are 1891 at most, so 4,096 numbers are enough, and what they held before is never read.
 pub const BACK: usize = 2048;
 
-// The search from a state to a goal. Where one is found, it is the last node of the queue.
-pub fn to_goal<'a>(
-    follow: &'a [u64; 61],
-    doubles: &'a [u64; 61],
-    shares: &'a [u64; 61],
-    scratch: &mut [u16],
-    goal: Goal,
-    start: usize,
-) -> Search
+// The search from a state to a goal: the queue number of the first that is found.
+pub fn to_goal(steps: &Steps, scratch: &mut [u16], goal: Goal, start: usize) -> Option<usize>
     requires { (4096 ≤ length scratch.old) × (start ≤ 60) }
-    ensures { Searched follow.now doubles.now shares.now scratch.new goal start result }
+    ensures { Searched steps.now scratch.new goal start result }
 {
-    let mut seen = [0u64; 61];
-    let mut w = begin(&mut *scratch, goal, start);
-    while w.head < w.tail && !w.found {
-        w = visit(follow, doubles, shares, &mut seen, &mut *scratch, goal, w);
+    let mut search = Search::begin(&mut *scratch, start);
+    if goal.is_met(Node::Together(start)) {
+        return Some(0);
     }
-    w
+    while let Some((i, node)) = search.visit(steps, &mut *scratch) {
+        if goal.is_met(node) {
+            return Some(i);
+        }
+    }
+    None
 }
 
-// The first position with two different loops back to itself over one text, 0 where there is none.
-pub fn first_pivot<'a>(
-    follow: &'a [u64; 61],
-    doubles: &'a [u64; 61],
-    shares: &'a [u64; 61],
-    scratch: &mut [u16],
-    positions: usize,
-) -> usize
+// The first position with two different loops back to itself over one text.
+pub fn first_pivot(steps: &Steps, scratch: &mut [u16], positions: usize) -> Option<usize>
     requires { (4096 ≤ length scratch.old) × (positions ≤ 60) }
-    ensures { (g : Graph) → Rows g follow.now → Doubles g doubles.now → Shares g shares.now → g.positions ≡ positions → first_pivot g ≡ result }
+    ensures { (g : Graph) → Tables g steps.now → g.positions ≡ positions → IsFirstPivot g result }
 {
-    let mut q: usize = 1;
-    let mut at: usize = 0;
-    'pivots: while q <= positions {
+    let mut first = None;
+    'pivots: for q in 1..=positions {
         let goal = Goal {
             mask: bits::only(q),
             parted: true,
         };
-        let mut seen = [0u64; 61];
-        let mut w = begin(&mut *scratch, goal, q);
-        while w.head < w.tail {
-            w = visit(follow, doubles, shares, &mut seen, &mut *scratch, goal, w);
-            if w.found {
-                at = q;
+        let mut search = Search::begin(&mut *scratch, q);
+        while let Some((_, node)) = search.visit(steps, &mut *scratch) {
+            if goal.is_met(node) {
+                first = Some(q);
                 break 'pivots;
             }
         }
-        q += 1;
     }
-    at
+    first
 }
 
-// A search that has taken up its first node, and no pair.
-fn begin(scratch: &mut [u16], goal: Goal, start: usize) -> Search
-    requires { (4096 ≤ length scratch.old) × (start ≤ 60) }
-    ensures { ((F D S : List ℕ) → Searching F D S scratch.new (replicate 61 0) goal start result) × (result.found ≡ is_goal goal start) }
-{
-    push(&mut *scratch, 0, start, 0);
-    Search {
-        head: 0,
-        tail: 1,
-        found: is_goal(goal, start),
-        alone: bits::only(start),
-        pending: u64::MAX,
-    }
+// A search under way. `head` and `tail` bound the queue of nodes taken up whose steps are still to be gone through. Of the pairs one
+// step on from the head, those whose first path is at a position outside `pending` are taken up already.
+#[derive(Drop)]
+struct Search {
+    head: usize,
+    tail: usize,
+    pending: u64,
+    seen: Seen,
 }
 
-// One visit: one node more is taken up, the first new one that is a step on from the head of the queue. A head with none is
-// passed. It is safe and ends whatever w and the lent numbers hold.
-fn visit<'a>(
-    follow: &'a [u64; 61],
-    doubles: &'a [u64; 61],
-    shares: &'a [u64; 61],
-    seen: &mut [u64; 61],
-    scratch: &mut [u16],
-    goal: Goal,
-    w: Search,
-) -> Search
-    requires { 4096 ≤ length scratch.old }
-    ensures { Tried follow.now doubles.now shares.now scratch.old scratch.new seen.old seen.new goal w result }
-{
-    let tail = w.tail;
-    let mut head = w.head;
-    let mut pending = w.pending;
-    let alone = w.alone;
-    if BACK <= tail {
-        return Search {
-            head: tail,
-            tail,
-            found: false,
-            alone,
-            pending,
-        };
-    }
-    while head < tail {
-        let x = scratch[head] as usize;
-        let y = nodes::next_new(follow, doubles, shares, &*seen, alone, pending, x);
-        if y.node < nodes::NONE {
-            push(&mut *scratch, tail, y.node, head);
-            return Search {
-                head,
-                tail: tail + 1,
-                found: is_goal(goal, y.node),
-                alone: nodes::take_up(&mut *seen, alone, y.node),
-                pending: y.pending,
-            };
+impl Search {
+    // A search that has taken up its first node.
+    fn begin(scratch: &mut [u16], start: usize) -> Search
+        requires { (4096 ≤ length scratch.old) × (start ≤ 60) }
+        ensures { (t : Steps) → Begun t scratch.new start result }
+    {
+        push(&mut *scratch, 0, Node::Together(start), 0);
+        Search {
+            head: 0,
+            tail: 1,
+            pending: u64::MAX,
+            seen: Seen::only(start),
         }
-        head += 1;
-        pending = u64::MAX;
     }
-    Search {
-        head,
-        tail,
-        found: false,
-        alone,
-        pending,
+
+    // One visit: one node more is taken up, the first new one that is a step on from the head of the queue, and given with its queue
+    // number. A head with none is passed.
+    fn visit(&mut self, steps: &Steps, scratch: &mut [u16]) -> Option<(usize, Node)>
+        requires { SoundSearch steps.now scratch.old self.old }
+        ensures { Visited steps.now scratch.old scratch.new self.old self.new result }
+    {
+        while self.head < self.tail {
+            let x = Node::from(scratch[self.head]);
+            if let Some(next) = steps.next_new(&self.seen, self.pending, x) {
+                let i = self.tail;
+                push(&mut *scratch, i, next.node, self.head);
+                self.seen.take_up(next.node);
+                self.pending = next.pending;
+                self.tail = i + 1;
+                return Some((i, next.node));
+            }
+            self.head += 1;
+            self.pending = u64::MAX;
+        }
+        None
     }
 }
 
-// The queue with y at its end, taken up from the node with queue number `from`.
-fn push(scratch: &mut [u16], tail: usize, y: usize, from: usize)
-    requires { (4096 ≤ length scratch.old) × (tail < 2048) × (y < 4096) × (from < 2048) }
-    ensures { scratch.new ≡ enqueue scratch.old y from tail }
+// The queue with a node at its end, taken up from the one with queue number `from`.
+fn push(scratch: &mut [u16], tail: usize, node: Node, from: usize)
+    requires { (4096 ≤ length scratch.old) × (tail < 2048) × Fits node × (from < 2048) }
+    ensures { scratch.new ≡ enqueue scratch.old (number_of node) from tail }
 {
-    scratch[tail] = y as u16;
+    scratch[tail] = node.number();
     scratch[BACK + tail] = from as u16;
-}
-
-// Is the node x a goal: a pair in the set or, unless the goal is parted, a state in it.
-fn is_goal(goal: Goal, x: usize) -> bool
-    requires { x < 4096 }
-    ensures { result ≡ is_goal goal x }
-{
-    if x < 64 {
-        return !goal.parted & bits::has(goal.mask, x);
-    }
-    bits::has(goal.mask, x / 64) & bits::has(goal.mask, x % 64)
 }

@@ -7,6 +7,7 @@ use Rattle.letters.specs.declared.LetterSet.{LetterSet}
 use Rattle.graph.specs.Graph.{some, Graph, is_position, next, doubled}
 use Rattle.letters.specs.LetterSet.{set_at}
 use Rattle.verdict.specs.Pairs.{shares}
+use Rattle.nodes.specs.declared.Steps.{Steps}
 use Rattle.nodes.specs.Nodes.{goes}
 
 pub record Rows (g : Graph) (F : List ℕ) : Type 0 where
@@ -21,6 +22,12 @@ pub record Doubles (g : Graph) (D : List ℕ) : Type 0 where
 pub record Shares (g : Graph) (S : List ℕ) : Type 0 where
   pub share : (a b : ℕ) → is_position g a ≡ true → is_position g b ≡ true → has_bit (get_or S a 0) b ≡ shares g a b
   pub own : (a : ℕ) → is_position g a ≡ true → shares g a a ≡ true
+
+-- the tables of a search are those of g
+pub record Tables (g : Graph) (t : Steps) : Type 0 where
+  pub rows : Rows g t.follow
+  pub doubles : Doubles g t.doubles
+  pub shares : Shares g t.shares
 
 -- ---- the links of a built pattern
 

@@ -11,25 +11,30 @@ ghost use Rattle.shares.specs.Tables.{Within, is_doubled, NoneDoubled, held};
 use letters::LetterSet;
 
 // The numbers up to `positions` whose sets share a letter with that of a, for every such a, in rows. Each pair is looked at once: what row
-// a gets of the numbers up to a, these get of a. The sets are read here and not in a function of one row, which would copy them all.
-pub fn share_rows(sets: [LetterSet; 61], rows: &mut [u64; 61], positions: usize)
-    requires { OnlyLetters sets × (length rows.old ≡ 61) × (positions ≤ 60) }
-    ensures { ((a b : ℕ) → a ≤ positions → b ≤ positions → has_bit (get_or rows.new a 0) b ≡ some_letter (held sets a b)) × (length rows.new ≡ 61) }
+// a gets of the numbers up to a, these get of a.
+pub fn share_rows(sets: &[LetterSet; 61], positions: usize) -> [u64; 61]
+    requires { OnlyLetters sets.now × (positions ≤ 60) }
+    ensures { (a b : ℕ) → a ≤ positions → b ≤ positions → has_bit (get_or result a 0) b ≡ some_letter (held sets.now a b) }
 {
-    let mut a: usize = 0;
-    while a <= positions {
-        let s = sets[a];
-        let mut word: u64 = 0;
-        let mut b: usize = 0;
-        while b <= a {
-            let t = sets[b];
-            word = bits::with_if(word, b, share(s, t));
-            b += 1;
-        }
-        columns::enter(&mut *rows, word, a);
-        rows[a] = word;
-        a += 1;
+    let mut rows = [0u64; 61];
+    for a in 0..=positions {
+        let row = share_row(sets, a);
+        columns::enter(&mut rows, row, a);
+        rows[a] = row;
     }
+    rows
+}
+
+// Of the numbers up to a, those whose sets share a letter with that of a.
+fn share_row(sets: &[LetterSet; 61], a: usize) -> u64
+    requires { OnlyLetters sets.now × (a ≤ 60) }
+    ensures { (j : ℕ) → has_bit result j ≡ (ltb j (a + 1) && some_letter (held sets.now a j)) }
+{
+    let mut row = 0;
+    for b in 0..=a {
+        row = bits::with_if(row, b, share(sets[a], sets[b]));
+    }
+    row
 }
 
 // Is there a letter that both sets hold.
@@ -50,10 +55,8 @@ pub fn double_rows(follow: &[u64; 61], more: &[u8], doubled: bool, positions: us
     if !doubled {
         return rows;
     }
-    let mut u: usize = 0;
-    while u <= positions {
+    for u in 0..=positions {
         rows[u] = double_row(follow[u], more, u);
-        u += 1;
     }
     rows
 }
@@ -63,12 +66,9 @@ fn double_row(set: u64, more: &[u8], u: usize) -> u64
     requires { ((i : ℕ) → has_bit set i ≡ true → i ≤ 60) × (length more.now ≡ 3721) × (u ≤ 60) }
     ensures { (i : ℕ) → has_bit result i ≡ (has_bit set i && ltb 0 (get_or more.now (61 * u + i) 0)) }
 {
-    let mut out: u64 = 0;
-    let mut left = set;
-    while left != 0 {
-        let i = bits::lowest(left);
-        out = bits::with_if(out, i, 0 < more[61 * u + i]);
-        left = bits::rest(left);
+    let mut doubled = 0;
+    for i in bits::members(set) {
+        doubled = bits::with_if(doubled, i, 0 < more[61 * u + i]);
     }
-    out
+    doubled
 }

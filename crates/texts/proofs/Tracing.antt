@@ -1,7 +1,7 @@
 -- The way back from a node of the queue: how many steps it takes, what is written along it, and that the nodes on it, read
 -- forwards, are a chain of steps with none twice. Assumes nothing.
 use mathlib.Core.Path.{◌≡◌, refl, sym, ap, ◌∙◌, subst}
-use mathlib.Core.Bool.{Bool, true}
+use mathlib.Core.Bool.{Bool}
 use mathlib.Core.List.{List, [], ◌∷◌, ◌++◌, map, append_assoc}
 use Prim.Native.Nat.{ℕ, suc, ◌+◌, ◌-◌, ◌≤◌, ◌<◌}
 use native.Mathlib.Nat.{le_refl}
@@ -12,9 +12,9 @@ use Rattle.basics.specs.Lists.{Each, Apart, end_of, Chain}
 use Rattle.basics.proofs.Lists.{each_map}
 use Rattle.letters.specs.declared.LetterSet.{LetterSet}
 use Rattle.search.specs.declared.Goal.{Goal}
-use Rattle.search.specs.declared.Search.{Search}
-use Rattle.nodes.specs.Nodes.{Step, taken}
-use Rattle.search.specs.Search.{queue, back_of, is_goal, SoundQueue, Searched}
+use Rattle.nodes.specs.declared.Steps.{Steps}
+use Rattle.nodes.specs.Nodes.{Step}
+use Rattle.search.specs.Search.{queue, back_of, is_goal, SoundQueue, Reached}
 use Rattle.texts.specs.Texts.{letter_at, LeadsBack, Behind, first, later, WayTo, there, before, Traced, ShownText}
 use Rattle.search.proofs.Visiting.{few_nodes}
 
@@ -160,31 +160,24 @@ leads_back i w l = let few = w.few in record { long = w.long; few = omega arith;
 
 -- ---- a search that found its goal, with the text of the way to it
 
-module _ {F D S s : List ℕ} {goal : Goal} {u : ℕ} {w : Search} (over : Searched F D S s goal u w) where
-  sound : SoundQueue (Step F D S) (taken w.alone over.seen) s w.head w.tail
-  sound = over.searching.sound.queue
+module _ {t : Steps} {s : List ℕ} {goal : Goal} {u i : ℕ} (r : Reached t s goal u i) where
+  pub found_leads_back : LeadsBack s (i + 1)
+  found_leads_back = leads_back i r.sound r.low
 
-  last_in : w.tail - 1 < w.tail
-  last_in = omega (arith, sound.begun)
+  pub found_few : i ≤ 1890
+  found_few = omega (arith, few_nodes r.sound, r.low)
 
-  pub found_leads_back : LeadsBack s (w.tail - 1 + 1)
-  found_leads_back = leads_back (w.tail - 1) sound last_in
+  pub found_steps : (P : ℕ → Type 0) → ((x y : ℕ) → Step t x y → P y) → (j : ℕ) → 0 < j → j ≤ i → P (queue s j)
+  found_steps P f j l k = f (queue s (back_of s j)) (queue s j) (r.sound.back j l (omega (arith, r.low))).1
 
-  pub found_few : w.tail - 1 ≤ 1890
-  found_few = omega (arith, few_nodes sound)
-
-  pub found_steps : (P : ℕ → Type 0) → ((x y : ℕ) → Step F D S x y → P y) → (j : ℕ) → 0 < j → j ≤ w.tail - 1 → P (queue s j)
-  found_steps P f j l k = f (queue s (back_of s j)) (queue s j) (sound.back j l (omega (arith, last_in))).1
-
-  pub shown_text : {sets : List LetterSet} {e e' : List ℕ} {base n : ℕ} → w.found ≡ true → n ≤ w.tail - 1 → Traced sets s e e' (w.tail - 1) base n → ShownText sets F D S e e' goal u base n
-  shown_text f l tr =
-      let r = along sound (w.tail - 1) 0 tr.nodes last_in tr.way in
-      let first = over.searching.first in
+  pub shown_text : {sets : List LetterSet} {e e' : List ℕ} {base n : ℕ} → n ≤ i → Traced sets s e e' i base n → ShownText sets t e e' goal u base n
+  shown_text l tr =
+      let a = along r.sound i 0 tr.nodes r.low tr.way in
       record {
         nodes = tr.nodes;
-        goes = subst (λ (x : ℕ). Chain (Step F D S) x tr.nodes) first r.goes;
-        apart = r.apart;
-        meets = ap (λ (x : ℕ). is_goal goal (end_of x tr.nodes)) (sym first) ∙ ap (is_goal goal) r.ends ∙ over.searching.some f;
+        goes = subst (λ (x : ℕ). Chain (Step t) x tr.nodes) r.first a.goes;
+        apart = a.apart;
+        meets = ap (λ (x : ℕ). is_goal goal (end_of x tr.nodes)) (sym r.first) ∙ ap (is_goal goal) a.ends ∙ r.meets;
         size = tr.size;
         few = omega (arith, found_few);
         text = tr.text;

@@ -1,9 +1,10 @@
 -- The way back from a node of the queue, and the text of the nodes on it.
-use Rattle.std.specs.Prelude.{◌≡◌, true, false, List, [], ◌∷◌, ◌++◌, map, ℕ, suc, ◌+◌, ◌≤◌, ◌<◌, length, take, drop}
+use Rattle.std.specs.Prelude.{◌≡◌, true, false, List, [], ◌∷◌, ◌++◌, map, ℕ, suc, ◌+◌, ◌≤◌, ◌<◌, length, take, drop, Option, None, Some}
 use Rattle.basics.specs.Lists.{Apart, end_of, Chain}
 use Rattle.alphabet.specs.Alphabet.{some_letter}
 use Rattle.letters.specs.Order.{first_letter}
 use Rattle.letters.specs.declared.LetterSet.{LetterSet}
+use Rattle.nodes.specs.declared.Steps.{Steps}
 use Rattle.nodes.specs.Nodes.{left_of, right_of, Step}
 use Rattle.shares.specs.Tables.{held}
 use Rattle.search.specs.declared.Goal.{Goal}
@@ -48,18 +49,17 @@ pub record Traced (sets : List LetterSet) (s e e' : List ℕ) (i base n : ℕ) :
   pub size : length nodes ≡ n
   pub text : e' ≡ written sets e base n nodes
 
--- ---- a search with its text: r letters written at base, or 4096 and nothing written where no goal is found
+-- ---- a search with its text: so many letters written at base, or nothing written where no goal is found
 
-pub record ShownText (sets : List LetterSet) (F D S e e' : List ℕ) (goal : Goal) (start base r : ℕ) : Type 0 where
+pub record ShownText (sets : List LetterSet) (t : Steps) (e e' : List ℕ) (goal : Goal) (start base r : ℕ) : Type 0 where
   pub nodes : List ℕ
-  pub goes : Chain (Step F D S) start nodes
+  pub goes : Chain (Step t) start nodes
   pub apart : Apart nodes
   pub meets : is_goal goal (end_of start nodes) ≡ true
   pub size : length nodes ≡ r
   pub few : r ≤ 1890
   pub text : e' ≡ written sets e base r nodes
 
-pub record Shown (sets : List LetterSet) (F D S e e' : List ℕ) (goal : Goal) (start base r : ℕ) : Type 0 where
-  pub top : r ≤ 4096
-  pub some : r < 4096 → ShownText sets F D S e e' goal start base r
-  pub none : 4096 ≤ r → (e' ≡ e) × ((nodes : List ℕ) → Chain (Step F D S) start nodes → is_goal goal (end_of start nodes) ≡ false)
+abbrev pub Shown : List LetterSet → Steps → List ℕ → List ℕ → Goal → ℕ → ℕ → Option ℕ → Type 0
+Shown sets t e e' goal start base None = (e' ≡ e) × ((nodes : List ℕ) → Chain (Step t) start nodes → is_goal goal (end_of start nodes) ≡ false)
+Shown sets t e e' goal start base (Some r) = ShownText sets t e e' goal start base r

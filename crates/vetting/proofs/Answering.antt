@@ -10,14 +10,15 @@ use borrow.Author.Tests.{eqb-true, eq-eqb, ne_eqb, lt-ltb, le-leb}
 use lib.Dec.{eqb, ltb, leb}
 use lib.ListN.{get_or, length, take, drop, length-map, length-append, replicate}
 use lib.Seq.{take_at, drop-append-add, drop-drop}
-use Rattle.std.specs.Prelude.{if◌then◌else◌}
+use Rattle.std.specs.Prelude.{if◌then◌else◌, Option, None, Some, IsSome}
 use Rattle.basics.specs.Lists.{Each, end_of}
-use Rattle.basics.proofs.Tests.{and_parts, and_of, if_yes, if_no, le_or_lt}
+use Rattle.basics.proofs.Tests.{and_parts, and_of, if_yes, if_no}
 use Rattle.basics.proofs.Lists.{zeros, pigeon}
 use Rattle.bits.specs.Bits.{has_bit}
 use Rattle.bits.proofs.Laws.{has_none}
 use Rattle.alphabet.specs.Alphabet.{some_letter, lowest_letter}
 use Rattle.alphabet.proofs.Alphabet.{lowest_letter_is, letter_some}
+use Rattle.letters.specs.declared.LetterSet.{LetterSet}
 use Rattle.graph.specs.declared.Built.{Built}
 use Rattle.graph.specs.Graph.{Graph, is_position}
 use Rattle.graph.specs.Built.{graph_of_built}
@@ -27,7 +28,7 @@ use Rattle.graph.proofs.Walks.{position_of}
 use Rattle.verdict.specs.Pairs.{both_hold, shares, letter_shown}
 use Rattle.verdict.specs.Verdict.{parts_to, ambiguous, is_pivot, first_pivot, verdict}
 use Rattle.verdict.specs.Evidence.{shown, ShowsSteady, ShowsRunaway}
-use Rattle.verdict.specs.Answers.{Begins, Vets}
+use Rattle.verdict.specs.Answers.{Begins}
 use Rattle.verdict.proofs.Pairs.{place_low, place_told}
 use Rattle.verdict.proofs.Flags.{start}
 use Rattle.verdict.proofs.Parting.{Parting, short_parting}
@@ -36,12 +37,15 @@ use Rattle.verdict.proofs.Shows.{both_last, parting_steady, loops_runaway}
 use Rattle.search.specs.declared.Goal.{Goal}
 use Rattle.nodes.specs.Nodes.{left_of, right_of, Step, single, beside}
 use Rattle.search.specs.Search.{is_goal}
-use Rattle.shares.specs.Tables.{Rows, Doubles, Shares, Within, is_doubled, NoneDoubled, held}
+use Rattle.shares.specs.Tables.{Rows, Tables, Within, is_doubled, NoneDoubled, held}
+use Rattle.nodes.specs.declared.Steps.{Steps}
 use Rattle.texts.specs.Texts.{letter_at, Showable, ShownText, Shown}
-use Rattle.vetting.specs.Answers.{Vettable}
+use Rattle.vetting.specs.declared.Verdict.TheVariants.{Single, Steady, Runaway}
+use Rattle.vetting.specs.Answers.{Vettable, Reported}
 use Rattle.nodes.proofs.Nodes.{left_low, right_low, sides}
 use Rattle.search.proofs.Moves.{shares_swap}
-use Rattle.search.proofs.Found.{goal_low, both_in, parted, short_nodes, shown_codes, some_parts, none_parts, letter_of, chain_route, route_chain}
+use Rattle.search.proofs.Visiting.{goal_low}
+use Rattle.search.proofs.Found.{both_in, parted, short_nodes, shown_codes, some_parts, none_parts, letter_of, chain_route, route_chain}
 use Rattle.search.proofs.Pivoting.{only_at, equal_swap}
 
 -- ---- texts one after the other
@@ -54,20 +58,16 @@ begins_more p y e e' e'' n m a b h k =
     (ap₂ drop (ap₂ ◌+◌ (sym a) (sym b)) h ∙ drop-append-add p rest (length y) ∙ drop-drop (length y) (length p) e ∙ ap (λ i. drop i e) (sym (length-append p y)))
     ∙ sym (append_assoc p y (drop (length (p ++ y)) e))
 
+-- ---- a text that is shown
+
+pub text_of : (sets : List LetterSet) (t : Steps) (e e' : List ℕ) (goal : Goal) (start base : ℕ) {r : Option ℕ} {n : ℕ} → r ≡ Some n → Shown sets t e e' goal start base r → ShownText sets t e e' goal start base n
+text_of sets t e e' goal start base is s = subst (Shown sets t e e' goal start base) is s
+
 -- ---- the tables of a built pattern
 
 module _ {b : Built} {more : List ℕ} (fit : Vettable b more) where
   abbrev g : Graph
   g = graph_of_built b more
-
-  pub rows_of : Rows g b.follow
-  rows_of = record {
-    few = fit.bounded.few;
-    comes = λ u i h. let n = built_next b more u i ∙ (and_parts (has_bit (get_or b.follow u 0) i) (leb 1 i && ltb i 61) h).0 in (fit.bounded.next_to u i n, n);
-    goes_on = λ u i h n.
-        let p = position_of g i h in
-        and_of (has_bit (get_or b.follow u 0) i) (leb 1 i && ltb i 61) (sym (built_next b more u i) ∙ n) (and_of (leb 1 i) (ltb i 61) (le-leb 1 i p.0) (lt-ltb i 61 (omega arith)));
-  }
 
   pub within : Within b.follow
   within u i h = let p = position_of g i (fit.bounded.next_to u i (built_next b more u i ∙ h)) in omega (arith, fit.bounded.few)
@@ -75,18 +75,25 @@ module _ {b : Built} {more : List ℕ} (fit : Vettable b more) where
   pub none_doubled : b.doubled ≡ false → NoneDoubled b.follow more
   none_doubled e u i = sym (built_doubled b more u i) ∙ fit.single e u i
 
-  pub doubles_of : (D : List ℕ) → ((u i : ℕ) → u ≤ b.positions → has_bit (get_or D u 0) i ≡ is_doubled b.follow more u i) → Doubles g D
-  doubles_of D h = record { several = λ u i l k. h u i l ∙ sym (built_doubled b more u i) }
-
   own : (a : ℕ) → is_position g a ≡ true → shares g a a ≡ true
   own a h =
       let c = lowest_letter_is (g.holds a) (fit.trim.lettered a h) in
       let l = lowest_letter (g.holds a) in
       letter_some (both_hold g a a) l c.0 (and_of (g.holds a l) (g.holds a l) c.1 c.1)
 
-  pub shares_of : (S : List ℕ) → ((a c : ℕ) → a ≤ b.positions → c ≤ b.positions → has_bit (get_or S a 0) c ≡ some_letter (held b.letters a c)) → Shares g S
-  shares_of S h =
-      record { share = λ a c k l. let p = position_of g a k in let q = position_of g c l in h a c (omega arith) (omega arith); own = own }
+  pub tables_of : (D S : List ℕ) → ((u i : ℕ) → u ≤ b.positions → has_bit (get_or D u 0) i ≡ is_doubled b.follow more u i)
+      → ((a c : ℕ) → a ≤ b.positions → c ≤ b.positions → has_bit (get_or S a 0) c ≡ some_letter (held b.letters a c)) → Tables g (record { follow = b.follow; doubles = D; shares = S })
+  tables_of D S h k = record {
+    rows = record {
+      few = fit.bounded.few;
+      comes = λ u i h. let n = built_next b more u i ∙ (and_parts (has_bit (get_or b.follow u 0) i) (leb 1 i && ltb i 61) h).0 in (fit.bounded.next_to u i n, n);
+      goes_on = λ u i h n.
+          let p = position_of g i h in
+          and_of (has_bit (get_or b.follow u 0) i) (leb 1 i && ltb i 61) (sym (built_next b more u i) ∙ n) (and_of (leb 1 i) (ltb i 61) (le-leb 1 i p.0) (lt-ltb i 61 (omega arith)));
+    };
+    doubles = record { several = λ u i l p. h u i l ∙ sym (built_doubled b more u i) };
+    shares = record { share = λ a c l m. let p = position_of g a l in let q = position_of g c m in k a c (omega arith) (omega arith); own = own };
+  }
 
   -- ---- each node that a step leads to has a letter
 
@@ -94,23 +101,23 @@ module _ {b : Built} {more : List ℕ} (fit : Vettable b more) where
   abbrev Honest : List ℕ → Type 0
   Honest S = (a c : ℕ) → is_position g a ≡ true → is_position g c ≡ true → has_bit (get_or S a 0) c ≡ true → shares g a c ≡ true
 
-  pub honest : {S : List ℕ} → Shares g S → Honest S
-  honest sh a c h k e = sym (sh.share a c h k) ∙ e
+  pub honest : {t : Steps} → Tables g t → Honest t.shares
+  honest tables a c h k e = sym (tables.shares.share a c h k) ∙ e
 
   pub honest_none : Honest (replicate 61 0)
   honest_none a c h k e = absurd (false≢true (sym (ap (λ (x : ℕ). has_bit x c) (zeros 61 a) ∙ has_none c) ∙ e))
 
-  pub showable : {D S : List ℕ} → Honest S → (x y : ℕ) → Step b.follow D S x y → Showable b.letters y
-  showable h x y (single {a} l k) =
-      let i = (rows_of.comes x a k).0 in
+  pub showable : {t : Steps} → Rows g t.follow → Honest t.shares → (x y : ℕ) → Step t x y → Showable b.letters y
+  showable rows h x y (single {a} l k) =
+      let i = (rows.comes x a k).0 in
       let p = position_of g a i in
       let low : a < 64 = omega arith in
       let left = left_low a low in
       let right = right_low a low in
       record { left = omega arith; right = omega arith; some = ap₂ (shares g) left right ∙ own a i }
-  showable h x y (beside {a} {b = c} p) =
-      let i = (rows_of.comes (left_of x) a p.left).0 in
-      let j = (rows_of.comes (right_of x) c p.right).0 in
+  showable rows h x y (beside {a} {b = c} p) =
+      let i = (rows.comes (left_of x) a p.left).0 in
+      let j = (rows.comes (right_of x) c p.right).0 in
       let u = position_of g a i in
       let v = position_of g c j in
       let s = h a c i j p.share in
@@ -129,13 +136,13 @@ module _ {b : Built} {more : List ℕ} (fit : Vettable b more) where
     walks : Parting g u test
     text : map (letter_at b.letters) nodes ≡ walks.text
 
-  two_walks : {D S : List ℕ} → Doubles g D → Shares g S → {m : ℕ} (test : ℕ → ℕ → Bool) → ((c d : ℕ) → both_in m c d ≡ test c d) → {e e' : List ℕ} {u base r : ℕ} → u ≤ g.positions
-      → (t : ShownText b.letters b.follow D S e e' (only_at m) u base r) → Walks t.nodes u test
-  two_walks db sh {m} test same {u = u} l t =
-      let w = parted rows_of db sh (only_at m) refl u l t.nodes t.goes t.meets in
+  two_walks : {t : Steps} → Tables g t → {m : ℕ} (test : ℕ → ℕ → Bool) → ((c d : ℕ) → both_in m c d ≡ test c d) → {e e' : List ℕ} {u base r : ℕ} → u ≤ g.positions
+      → (s : ShownText b.letters t e e' (only_at m) u base r) → Walks s.nodes u test
+  two_walks tables {m} test same {u = u} l t =
+      let w = parted tables (only_at m) refl u l t.nodes t.goes t.meets in
       record {
-        walks = short_parting g fit.trim u test w.to (sym (same w.to.left w.to.right) ∙ w.passes) (short_nodes rows_of db sh (only_at m) u t.nodes t.apart w);
-        text = text_same t.nodes ∙ ap (map (letter_of g)) (sym w.are) ∙ shown_codes rows_of db sh (start u) w.nodes w.goes;
+        walks = short_parting g fit.trim u test w.to (sym (same w.to.left w.to.right) ∙ w.passes) (short_nodes tables (only_at m) u t.nodes t.apart w);
+        text = text_same t.nodes ∙ ap (map (letter_of g)) (sym w.are) ∙ shown_codes tables (start u) w.nodes w.goes;
       }
 
   -- ---- one path
@@ -168,56 +175,60 @@ module _ {b : Built} {more : List ℕ} (fit : Vettable b more) where
     short : length nodes ≤ g.positions
     text : map (letter_at b.letters) nodes ≡ shown g nodes nodes
 
-  abbrev ShownRoute : List ℕ → List ℕ → List ℕ → ℕ → ℕ → ℕ → ℕ → Type 0
-  ShownRoute D e e' m u base r = ShownText b.letters b.follow D (replicate 61 0) e e' (state_in m) u base r
+  -- the steps of one path
+  pub record OnePath (t : Steps) : Type 0 where
+    pub rows : Rows g t.follow
+    pub none : t.shares ≡ replicate 61 0
 
-  routed : {D : List ℕ} {m : ℕ} {e e' : List ℕ} {u base r : ℕ} → u ≤ g.positions → (t : ShownRoute D e e' m u base r) → Routed t.nodes u m
-  routed {D} {m} {u = u} l t =
-      let h = chain_route rows_of D u t.nodes t.goes in
+  abbrev ShownRoute : Steps → List ℕ → List ℕ → ℕ → ℕ → ℕ → ℕ → Type 0
+  ShownRoute t e e' m u base r = ShownText b.letters t e e' (state_in m) u base r
+
+  routed : {t : Steps} → OnePath t → {m : ℕ} {e e' : List ℕ} {u base r : ℕ} → u ≤ g.positions → (s : ShownRoute t e e' m u base r) → Routed s.nodes u m
+  routed {t} one {m} {u = u} l s =
+      let h = chain_route t one.rows one.none u s.nodes s.goes in
       record {
         route = h;
-        meets = sym (goal_at m u t.nodes l h) ∙ t.meets;
-        short = pigeon (λ (i : ℕ). i - 1) (λ (i : ℕ). is_position g i ≡ true) g.positions (place_low g) (place_told g) t.nodes t.apart (route_each u t.nodes h);
-        text = text_same t.nodes ∙ route_text u t.nodes h;
+        meets = sym (goal_at m u s.nodes l h) ∙ s.meets;
+        short = pigeon (λ (i : ℕ). i - 1) (λ (i : ℕ). is_position g i ≡ true) g.positions (place_low g) (place_told g) s.nodes s.apart (route_each u s.nodes h);
+        text = text_same s.nodes ∙ route_text u s.nodes h;
       }
 
+  pub one_path : {t : Steps} → Tables g t → OnePath (record { follow = t.follow; doubles = t.doubles; shares = replicate 61 0 })
+  one_path tables = record { rows = tables.rows; none = refl }
+
   -- where there is a route, a search finds one
-  route_shown : {D : List ℕ} {m : ℕ} {e e' : List ℕ} {u base r : ℕ} (c : List ℕ) → u ≤ g.positions → Route g u c → has_bit m (end_of u c) ≡ true
-      → Shown b.letters b.follow D (replicate 61 0) e e' (state_in m) u base r → ShownRoute D e e' m u base r
-  route_shown {D} {m} {u = u} {r = r} c l h k s =
-      ⊎_elim
-      (λ n. absurd (true≢false (sym (goal_at m u c l h ∙ k) ∙ (s.none n).1 c (route_chain rows_of D (replicate 61 0) u c (omega arith) h))))
-      s.some (le_or_lt 4096 r)
+  route_some : {t : Steps} → OnePath t → (m : ℕ) (e e' : List ℕ) {u : ℕ} (base : ℕ) (r : Option ℕ) (c : List ℕ) → u ≤ g.positions → Route g u c → has_bit m (end_of u c) ≡ true
+      → Shown b.letters t e e' (state_in m) u base r → IsSome r
+  route_some {t} one m e e' {u} base None c l h k s =
+      absurd (true≢false (sym (goal_at m u c l h ∙ k) ∙ s.1 c (route_chain t one.rows u c (omega arith) h)))
+  route_some one m e e' base (Some r) c l h k s = refl
 
   -- ---- no pivot
 
-  module _ {D S : List ℕ} (db : Doubles g D) (sh : Shares g S) (no : first_pivot g ≡ 0) {e e' : List ℕ} {r : ℕ} (s : Shown b.letters b.follow D S e e' (only_at b.lasts) 0 0 r) where
-    verdict_low : verdict g ≡ (if ambiguous g then 1 else 0)
-    verdict_low = if_no 2 (if ambiguous g then 1 else 0) (not (eqb (first_pivot g) 0)) (ap not (eq-eqb (first_pivot g) 0 no))
+  verdict_low : first_pivot g ≡ 0 → verdict g ≡ (if ambiguous g then 1 else 0)
+  verdict_low z = if_no 2 (if ambiguous g then 1 else 0) (not (eqb (first_pivot g) 0)) (ap not (eq-eqb (first_pivot g) 0 z))
 
-    pub single_answer : 4096 ≤ r → Vets g e e' 0 0 0 0
-    single_answer l =
-        let n = s.none l in
-        record {
-          verdict_is = sym (verdict_low ∙ if_no 1 0 (ambiguous g) (none_parts rows_of db sh (only_at b.lasts) refl 0 zero-le n.1));
-          shows = record { first = refl; second = refl; third = refl; kept = n.0 };
-        }
+  module _ {t : Steps} (tables : Tables g t) (none : first_pivot g ≡ 0) {e e' : List ℕ} where
+    pub single_answer : Shown b.letters t e e' (only_at b.lasts) 0 0 None → Reported g e e' Single
+    single_answer n = record {
+      verdict_is = sym (verdict_low none ∙ if_no 1 0 (ambiguous g) (none_parts tables (only_at b.lasts) refl 0 zero-le n.1));
+      shows = record { first = refl; second = refl; third = refl; kept = n.0 };
+    }
 
-    pub steady_answer : r < 4096 → Vets g e e' 1 r 0 0
-    steady_answer l =
-        let t = s.some l in
-        let w = two_walks db sh (both_last g) (λ c d. refl) zero-le t in
-        let text = map (letter_at b.letters) t.nodes in
-        let size : length text ≡ r = length-map t.nodes (letter_at b.letters) ∙ t.size in
+    pub steady_answer : {r : ℕ} → ShownText b.letters t e e' (only_at b.lasts) 0 0 r → Reported g e e' (Steady r)
+    steady_answer {r} s =
+        let w = two_walks tables (both_last g) (λ c d. refl) zero-le s in
+        let text = map (letter_at b.letters) s.nodes in
+        let size : length text ≡ r = length-map s.nodes (letter_at b.letters) ∙ s.size in
         record {
-          verdict_is = sym (verdict_low ∙ if_yes 1 0 (ambiguous g) (some_parts rows_of db sh (only_at b.lasts) refl 0 zero-le t.nodes t.goes t.meets));
+          verdict_is = sym (verdict_low none ∙ if_yes 1 0 (ambiguous g) (some_parts tables (only_at b.lasts) refl 0 zero-le s.nodes s.goes s.meets));
           shows = record {
             text = text;
             shows = subst (ShowsSteady g) (sym w.text) (parting_steady g w.walks);
             first = sym size;
             second = refl;
             third = refl;
-            written = begins_more [] text e e e' 0 r refl size refl t.text;
+            written = begins_more [] text e e e' 0 r refl size refl s.text;
           };
         }
 
@@ -249,23 +260,23 @@ module _ {b : Built} {more : List ℕ} (fit : Vettable b more) where
     useful : Useful g q
     useful = fit.trim.useful q first.0
 
-    pub way_in_shown : {D e e' : List ℕ} {r : ℕ} → Shown b.letters b.follow D (replicate 61 0) e e' (state_in m) 0 0 r → ShownRoute D e e' m 0 0 r
-    way_in_shown = route_shown useful.way_in zero-le useful.goes_in (at.only (end_of 0 useful.way_in) ∙ eq-eqb q (end_of 0 useful.way_in) (sym useful.comes))
+    pub way_in_some : {t : Steps} → OnePath t → (e e' : List ℕ) (r : Option ℕ) → Shown b.letters t e e' (state_in m) 0 0 r → IsSome r
+    way_in_some one e e' r = route_some one m e e' 0 r useful.way_in zero-le useful.goes_in (at.only (end_of 0 useful.way_in) ∙ eq-eqb q (end_of 0 useful.way_in) (sym useful.comes))
 
-    pub way_in_short : {D e e' : List ℕ} {r : ℕ} → ShownRoute D e e' m 0 0 r → r ≤ 60
-    way_in_short t = omega (arith, (routed zero-le t).short, t.size, fit.bounded.few)
+    pub way_in_short : {t : Steps} → OnePath t → {e e' : List ℕ} {r : ℕ} → ShownRoute t e e' m 0 0 r → r ≤ 60
+    way_in_short one t = omega (arith, (routed one zero-le t).short, t.size, fit.bounded.few)
 
-    pub way_out_shown : {D e e' : List ℕ} {base r : ℕ} → Shown b.letters b.follow D (replicate 61 0) e e' (state_in b.lasts) q base r → ShownRoute D e e' b.lasts q base r
-    way_out_shown = route_shown useful.way_out low useful.goes_out useful.ends
+    pub way_out_some : {t : Steps} → OnePath t → (e e' : List ℕ) (base : ℕ) (r : Option ℕ) → Shown b.letters t e e' (state_in b.lasts) q base r → IsSome r
+    way_out_some one e e' base r = route_some one b.lasts e e' base r useful.way_out low useful.goes_out useful.ends
 
     back_same : (c d : ℕ) → both_in m c d ≡ back_to q c d
     back_same c d = ap₂ ◌&&◌ (at.only c ∙ equal_swap q c) (at.only d ∙ equal_swap q d)
 
-    pub loops_shown : {D S : List ℕ} → Doubles g D → Shares g S → {e e' : List ℕ} {base r : ℕ} → Shown b.letters b.follow D S e e' (only_at m) q base r
-        → ShownText b.letters b.follow D S e e' (only_at m) q base r
-    loops_shown db sh {r = r} s =
+    pub loops_some : {t : Steps} → Tables g t → (e e' : List ℕ) (base : ℕ) (r : Option ℕ) → Shown b.letters t e e' (only_at m) q base r → IsSome r
+    loops_some tables e e' base None s =
         let same : both_in m ≡ back_to q = λ i c d. back_same c d i in
-        ⊎_elim (λ n. absurd (true≢false (sym first.1 ∙ ap (parts_to g q) (sym same) ∙ none_parts rows_of db sh (only_at m) refl q low (s.none n).1))) s.some (le_or_lt 4096 r)
+        absurd (true≢false (sym first.1 ∙ ap (parts_to g q) (sym same) ∙ none_parts tables (only_at m) refl q low s.1))
+    loops_some tables e e' base (Some r) s = refl
 
     at_pivot : (w : Useful g q) (l : Loops g q) → ShowsRunaway g (shown g w.way_in w.way_in) l.text (shown g w.way_out w.way_out)
     at_pivot =
@@ -273,13 +284,13 @@ module _ {b : Built} {more : List ℕ} (fit : Vettable b more) where
         (λ i w l. loops_runaway g fit.trim i w l) first.0
 
     -- the three texts
-    pub runaway_answer : {D S : List ℕ} → Doubles g D → Shares g S → {e e1 e2 e3 : List ℕ} {x y z : ℕ} → ShownRoute D e e1 m 0 0 x
-        → ShownText b.letters b.follow D S e1 e2 (only_at m) q x y → ShownRoute D e2 e3 b.lasts q (x + y) z
-        → Vets g e e3 2 x y z
-    runaway_answer db sh {e} {e1} {e2} {e3} {x} {y} {z} tx ty tz =
-        let i = routed zero-le tx in
-        let o = routed low tz in
-        let w = two_walks db sh (back_to q) back_same low ty in
+    pub runaway_answer : {t p : Steps} → Tables g t → OnePath p → {e e1 e2 e3 : List ℕ} {x y z : ℕ} → ShownRoute p e e1 m 0 0 x
+        → ShownText b.letters t e1 e2 (only_at m) q x y → ShownRoute p e2 e3 b.lasts q (x + y) z
+        → Reported g e e3 (Runaway x y z)
+    runaway_answer tables one {e} {e1} {e2} {e3} {x} {y} {z} tx ty tz =
+        let i = routed one zero-le tx in
+        let o = routed one low tz in
+        let w = two_walks tables (back_to q) back_same low ty in
         let text : List ℕ → List ℕ = map (letter_at b.letters) in
         let sx : length (text tx.nodes) ≡ x = length-map tx.nodes (letter_at b.letters) ∙ tx.size in
         let sy : length (text ty.nodes) ≡ y = length-map ty.nodes (letter_at b.letters) ∙ ty.size in

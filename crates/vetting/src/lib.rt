@@ -5,14 +5,12 @@
 ghost use Rattle.std.specs.Prelude.{◌≡◌, ◌≤◌, ◌<◌, length};
 ghost use Rattle.graph.specs.Built.{graph_of_built};
 ghost use Rattle.verdict.specs.Verdict.{first_pivot};
-ghost use Rattle.shares.specs.Tables.{Doubles, Shares};
+ghost use Rattle.shares.specs.Tables.{Tables};
 ghost use Rattle.vetting.specs.Answers.{Vettable, Reported, Judged};
 
 use graph::Built;
+use nodes::Steps;
 use search::Goal;
-
-// What the search for a pivot gives where there is none.
-const NO_PIVOT: usize = 0;
 
 // A verdict, with the lengths of the texts at the beginning of the evidence that show it: of a steady pattern a text with two
 // readings; of a runaway one a way to its first pivot, a text with two loops there, and a way to an end.
@@ -36,16 +34,14 @@ pub fn vet(b: Built, more: &[u8], evidence: &mut [u8], scratch: &mut [u16]) -> V
     requires { Vettable b more.now × (length more.now ≡ 3721) × (4096 ≤ length evidence.old) × (4096 ≤ length scratch.old) }
     ensures { Judged (graph_of_built b more.now) evidence.old evidence.new result }
 {
-    let follow = b.follow;
-    let sets = b.letters;
-    let doubles = shares::double_rows(&follow, more, b.doubled, b.positions);
-    let mut shares = [0u64; 61];
-    shares::share_rows(sets, &mut shares, b.positions);
-    let q = search::first_pivot(&follow, &doubles, &shares, &mut *scratch, b.positions);
-    let verdict = if q == NO_PIVOT {
-        single_or_steady(b, more, &doubles, &shares, &mut *evidence, &mut *scratch)
-    } else {
-        runaway(b, more, &doubles, &shares, &mut *evidence, &mut *scratch, q)
+    let steps = Steps {
+        follow: b.follow,
+        doubles: shares::double_rows(&b.follow, more, b.doubled, b.positions),
+        shares: shares::share_rows(&b.letters, b.positions),
+    };
+    let verdict = match search::first_pivot(&steps, &mut *scratch, b.positions) {
+        None => single_or_steady(&b, more, &steps, &mut *evidence, &mut *scratch),
+        Some(q) => runaway(&b, more, &steps, &mut *evidence, &mut *scratch, q),
     };
     Vetted {
         positions: b.positions as u8,
@@ -54,56 +50,43 @@ pub fn vet(b: Built, more: &[u8], evidence: &mut [u8], scratch: &mut [u16]) -> V
 }
 
 // Of a pattern without a pivot, whose links `more` counts: steady where two readings part and both come to an end, else single.
-fn single_or_steady<'a>(
-    b: Built,
+fn single_or_steady(
+    b: &Built,
     more: &[u8],
-    doubles: &'a [u64; 61],
-    shares: &'a [u64; 61],
+    steps: &Steps,
     evidence: &mut [u8],
     scratch: &mut [u16],
 ) -> Verdict
-    requires { Vettable b more.now × Doubles (graph_of_built b more.now) doubles.now × Shares (graph_of_built b more.now) shares.now × (first_pivot (graph_of_built b more.now) ≡ 0) × (4096 ≤ length evidence.old) × (4096 ≤ length scratch.old) }
-    ensures { Reported (graph_of_built b more.now) evidence.old evidence.new result }
+    requires { Vettable b.now more.now × Tables (graph_of_built b.now more.now) steps.now × (first_pivot (graph_of_built b.now more.now) ≡ 0) × (4096 ≤ length evidence.old) × (4096 ≤ length scratch.old) }
+    ensures { Reported (graph_of_built b.now more.now) evidence.old evidence.new result }
 {
-    let follow = b.follow;
-    let sets = b.letters;
     let goal = Goal {
         mask: b.lasts,
         parted: true,
     };
-    let n = texts::show(
-        &follow,
-        doubles,
-        shares,
-        sets,
-        &mut *scratch,
-        &mut *evidence,
-        goal,
-        0,
-        0,
-    );
-    if n == texts::NO_TEXT {
-        return Verdict::Single;
+    match texts::show(steps, &b.letters, &mut *scratch, &mut *evidence, goal, 0, 0) {
+        None => Verdict::Single,
+        Some(n) => Verdict::Steady { text: n as u32 },
     }
-    Verdict::Steady { text: n as u32 }
 }
 
-// Of a pattern whose first pivot is q, and whose links `more` counts.
-fn runaway<'a>(
-    b: Built,
+// Of a pattern whose first pivot is q, and whose links `more` counts. Where no letters are shared, paths never part.
+fn runaway(
+    b: &Built,
     more: &[u8],
-    doubles: &'a [u64; 61],
-    shares: &'a [u64; 61],
+    steps: &Steps,
     evidence: &mut [u8],
     scratch: &mut [u16],
     q: usize,
 ) -> Verdict
-    requires { Vettable b more.now × Doubles (graph_of_built b more.now) doubles.now × Shares (graph_of_built b more.now) shares.now × (first_pivot (graph_of_built b more.now) ≡ q) × (0 < q) × (4096 ≤ length evidence.old) × (4096 ≤ length scratch.old) }
-    ensures { Reported (graph_of_built b more.now) evidence.old evidence.new result }
+    requires { Vettable b.now more.now × Tables (graph_of_built b.now more.now) steps.now × (first_pivot (graph_of_built b.now more.now) ≡ q) × (0 < q) × (4096 ≤ length evidence.old) × (4096 ≤ length scratch.old) }
+    ensures { Reported (graph_of_built b.now more.now) evidence.old evidence.new result }
 {
-    let follow = b.follow;
-    let sets = b.letters;
-    let none = [0u64; 61];
+    let sets = &b.letters;
+    let one_path = Steps {
+        shares: [0; 61],
+        ..*steps
+    };
     let here = bits::only(q);
     let arrive = Goal {
         mask: here,
@@ -117,39 +100,18 @@ fn runaway<'a>(
         mask: b.lasts,
         parted: false,
     };
-    let x = texts::show(
-        &follow,
-        doubles,
-        &none,
-        sets,
-        &mut *scratch,
-        &mut *evidence,
-        arrive,
-        0,
-        0,
-    );
-    let y = texts::show(
-        &follow,
-        doubles,
-        shares,
-        sets,
-        &mut *scratch,
-        &mut *evidence,
-        loops,
-        q,
-        x,
-    );
+    let x = texts::show(&one_path, sets, &mut *scratch, &mut *evidence, arrive, 0, 0).unwrap();
+    let y = texts::show(steps, sets, &mut *scratch, &mut *evidence, loops, q, x).unwrap();
     let z = texts::show(
-        &follow,
-        doubles,
-        &none,
+        &one_path,
         sets,
         &mut *scratch,
         &mut *evidence,
         leave,
         q,
         x + y,
-    );
+    )
+    .unwrap();
     Verdict::Runaway {
         x: x as u32,
         y: y as u32,

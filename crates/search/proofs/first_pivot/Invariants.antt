@@ -1,17 +1,14 @@
--- The outer loop has passed positions that are no pivots; the inner one is a search from q for both paths back at q.
--- Assumes nothing.
-use Prim.Native.Nat.{◌+◌, ◌-◌, ◌*◌}
-use Rattle.search.proofs.Pivoting.{Looking, Passing}
+-- The outer loop has passed positions that are no pivots; the inner one is a search from q for both paths back at q. Assumes nothing.
+use Rattle.std.proofs.Common.{◌-◌, ◌≡◌, ◌≤◌, length, None}
+use Rattle.search.specs.Search.{Searching}
+use Rattle.search.proofs.Pivoting.{NoneBelow}
 use Rattle.search.proofs.first_pivot.Given as goal
 
-abbrev pub invariant-loop-w : goal.invariant-loop-w
-invariant-loop-w l = Looking l.follow l.doubles l.shares l.initial.scratch l.scratch l.seen l.goal l.q l.initial.at l.at l.w
+abbrev pub invariant-loop-node : goal.invariant-loop-node
+invariant-loop-node l = (length l.scratch ≡ length l.initial.scratch) × (l.first ≡ l.initial.first) × Searching l.steps l.scratch l.goal l.q l.search
 
-abbrev pub decreases-loop-w : goal.decreases-loop-w
-decreases-loop-w l = 4000 * (2048 - l.w.tail) + (l.w.tail - l.w.head)
+abbrev pub decreases-loop-node : goal.decreases-loop-node
+decreases-loop-node l = 2048 - l.search.tail
 
 abbrev pub invariant-pivots : goal.invariant-pivots
-invariant-pivots l = Passing l.follow l.doubles l.shares l.initial.scratch l.scratch l.positions l.q l.at
-
-abbrev pub decreases-pivots : goal.decreases-pivots
-decreases-pivots l = l.positions + 1 - l.q
+invariant-pivots l = (length l.scratch ≡ length l.initial.scratch) × (l.first ≡ None) × NoneBelow l.steps l.positions l.q

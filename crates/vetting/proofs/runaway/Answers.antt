@@ -2,62 +2,66 @@
 -- to an end. Assumes nothing.
 use Prim.Native.Nat.{◌≤◌}
 use native.Mathlib.Omega.{arith}
-use Rattle.vetting.proofs.Answering.{honest, honest_none, showable, Pivot, first_low, way_in_shown, way_in_short, way_out_shown, loops_shown, runaway_answer}
+use Rattle.vetting.proofs.Answering.{honest, honest_none, showable, text_of, Pivot, first_low, one_path, way_in_some, way_in_short, way_out_some, loops_some, runaway_answer}
 use Rattle.vetting.proofs.runaway.Goals as goal
 
 pub only-here-requires : goal.only-here-requires
 only-here-requires c =
-    omega (arith, first_low c.requires.0 c.requires.3 c.requires.4)
+    omega (arith, first_low c.requires.0 c.requires.2 c.requires.3)
 
-pub show-x-requires : goal.show-x-requires
-show-x-requires c =
+pub show-requires : goal.show-requires
+show-requires c =
     let fit = c.requires.0 in
-    (c.requires.6, omega arith, omega (arith, c.requires.5), fit.bounded.letters, showable fit (honest_none fit))
+    (c.requires.5, omega arith, omega (arith, c.requires.4), fit.bounded.letters, showable fit c.requires.1.rows (honest_none fit))
 
-pub show-y-requires : goal.show-y-requires
-show-y-requires c =
-    let pivot : Pivot c.requires.0 c.args.q c.only-here.result = record { is = c.requires.3; some = c.requires.4; only = c.only-here.ensures } in
-    let arrives : c.show-x.result ≤ 60 =
+pub unwrap-x-requires : goal.unwrap-x-requires
+unwrap-x-requires c =
     let fit = c.requires.0 in
-    way_in_short fit (pivot) (way_in_shown fit (pivot) c.show-x.ensures) in
-    let fit = c.requires.0 in (
-      omega (arith, c.requires.6, c.show-x.auto.scratch),
-      first_low fit c.requires.3 c.requires.4,
-      omega (arith, c.requires.5, c.show-x.auto.evidence, arrives),
+    let pivot : Pivot fit c.args.q c.only-here.result = record { is = c.requires.2; some = c.requires.3; only = c.only-here.ensures } in
+    way_in_some fit pivot (one_path fit c.requires.1) _ _ c.show.result c.show.ensures
+
+pub show-requires-2 : goal.show-requires-2
+show-requires-2 c =
+    let fit = c.requires.0 in
+    let tables = c.requires.1 in
+    let pivot : Pivot fit c.args.q c.only-here.result = record { is = c.requires.2; some = c.requires.3; only = c.only-here.ensures } in
+    let arrives : c.unwrap-x.result ≤ 60 = way_in_short fit pivot (one_path fit tables) (text_of _ _ _ _ _ _ _ c.unwrap-x.ensures c.show.ensures) in (
+      omega (arith, c.requires.5, c.show.auto.scratch),
+      first_low fit c.requires.2 c.requires.3,
+      omega (arith, c.requires.4, c.show.auto.evidence, arrives),
       fit.bounded.letters,
-      showable fit (honest fit c.requires.2),
+      showable fit tables.rows (honest fit tables),
     )
 
-pub overflow_add-x : goal.overflow_add-x
-overflow_add-x c =
-    let pivot : Pivot c.requires.0 c.args.q c.only-here.result = record { is = c.requires.3; some = c.requires.4; only = c.only-here.ensures } in
-    let arrives : c.show-x.result ≤ 60 =
+pub unwrap-y-requires : goal.unwrap-y-requires
+unwrap-y-requires c =
     let fit = c.requires.0 in
-    way_in_short fit (pivot) (way_in_shown fit (pivot) c.show-x.ensures) in
-    let loops : c.show-y.result ≤ 1890 =
-    (loops_shown c.requires.0 (pivot) c.requires.1 c.requires.2 c.show-y.ensures).few in
-    omega (arith, arrives, loops)
+    let pivot : Pivot fit c.args.q c.only-here.result = record { is = c.requires.2; some = c.requires.3; only = c.only-here.ensures } in
+    loops_some fit pivot c.requires.1 _ _ _ c.show-2.result c.show-2.ensures
 
-pub show-z-requires : goal.show-z-requires
-show-z-requires c =
-    let pivot : Pivot c.requires.0 c.args.q c.only-here.result = record { is = c.requires.3; some = c.requires.4; only = c.only-here.ensures } in
-    let arrives : c.show-x.result ≤ 60 =
+pub show-requires-3 : goal.show-requires-3
+show-requires-3 c =
     let fit = c.requires.0 in
-    way_in_short fit (pivot) (way_in_shown fit (pivot) c.show-x.ensures) in
-    let loops : c.show-y.result ≤ 1890 =
-    (loops_shown c.requires.0 (pivot) c.requires.1 c.requires.2 c.show-y.ensures).few in
-    let fit = c.requires.0 in (
-      omega (arith, c.requires.6, c.show-x.auto.scratch, c.show-y.auto.scratch),
-      first_low fit c.requires.3 c.requires.4,
-      omega (arith, c.requires.5, c.show-x.auto.evidence, c.show-y.auto.evidence, arrives, loops),
+    let tables = c.requires.1 in
+    let pivot : Pivot fit c.args.q c.only-here.result = record { is = c.requires.2; some = c.requires.3; only = c.only-here.ensures } in
+    let arrives : c.unwrap-x.result ≤ 60 = way_in_short fit pivot (one_path fit tables) (text_of _ _ _ _ _ _ _ c.unwrap-x.ensures c.show.ensures) in
+    let loops : c.unwrap-y.result ≤ 1890 = (text_of _ _ _ _ _ _ _ c.unwrap-y.ensures c.show-2.ensures).few in (
+      omega (arith, c.requires.5, c.show.auto.scratch, c.show-2.auto.scratch),
+      first_low fit c.requires.2 c.requires.3,
+      omega (arith, c.requires.4, c.show.auto.evidence, c.show-2.auto.evidence, arrives, loops),
       fit.bounded.letters,
-      showable fit (honest_none fit),
+      showable fit tables.rows (honest_none fit),
     )
+
+pub unwrap-z-requires : goal.unwrap-z-requires
+unwrap-z-requires c =
+    let fit = c.requires.0 in
+    let pivot : Pivot fit c.args.q c.only-here.result = record { is = c.requires.2; some = c.requires.3; only = c.only-here.ensures } in
+    way_out_some fit pivot (one_path fit c.requires.1) _ _ _ c.show-3.result c.show-3.ensures
 
 pub returns : goal.returns
 returns c =
-    let pivot : Pivot c.requires.0 c.args.q c.only-here.result = record { is = c.requires.3; some = c.requires.4; only = c.only-here.ensures } in
     let fit = c.requires.0 in
-    let at = pivot in
-    let db = c.requires.1 in
-    (runaway_answer fit at db c.requires.2 (way_in_shown fit at c.show-x.ensures) (loops_shown fit at db c.requires.2 c.show-y.ensures) (way_out_shown fit at c.show-z.ensures))
+    let pivot : Pivot fit c.args.q c.only-here.result = record { is = c.requires.2; some = c.requires.3; only = c.only-here.ensures } in
+    runaway_answer fit pivot c.requires.1 (one_path fit c.requires.1) (text_of _ _ _ _ _ _ _ c.unwrap-x.ensures c.show.ensures) (text_of _ _ _ _ _ _ _ c.unwrap-y.ensures c.show-2.ensures)
+    (text_of _ _ _ _ _ _ _ c.unwrap-z.ensures c.show-3.ensures)

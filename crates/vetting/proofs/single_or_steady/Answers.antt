@@ -3,15 +3,14 @@ use native.Mathlib.Omega.{arith}
 use Rattle.vetting.proofs.Answering.{honest, showable, single_answer, steady_answer}
 use Rattle.vetting.proofs.single_or_steady.Goals as goal
 
-pub show-n-requires : goal.show-n-requires
-show-n-requires c =
+pub show-requires : goal.show-requires
+show-requires c =
     let fit = c.requires.0 in
-    (c.requires.5, omega arith, omega (arith, c.requires.4), fit.bounded.letters, showable fit (honest fit c.requires.2))
+    let tables = c.requires.1 in
+    (c.requires.4, omega arith, omega (arith, c.requires.3), fit.bounded.letters, showable fit tables.rows (honest fit tables))
 
-pub returns-then-n-eq-NO_TEXT : goal.returns-then-n-eq-NO_TEXT
-returns-then-n-eq-NO_TEXT c =
-    single_answer c.requires.0 c.requires.1 c.requires.2 c.requires.3 c.show-n.ensures (omega (arith, c.if-n-eq-NO_TEXT.true))
+pub returns-in-None : goal.returns-in-None
+returns-in-None c = single_answer c.requires.0 c.requires.1 c.requires.2 c.in-None.ensures
 
-pub returns : goal.returns
-returns c =
-    steady_answer c.requires.0 c.requires.1 c.requires.2 c.requires.3 c.show-n.ensures (omega (arith, c.show-n.ensures.top, c.if-n-eq-NO_TEXT.false))
+pub returns-in-Some : goal.returns-in-Some
+returns-in-Some c = steady_answer c.requires.0 c.requires.1 c.requires.2 c.in-Some.ensures

@@ -3,7 +3,7 @@ use Prim.Native.Nat.{◌+◌, ◌≤◌, ◌<◌}
 use native.Mathlib.Omega.{arith}
 use Rattle.search.specs.Search.{back_of}
 use Rattle.texts.proofs.Tracing.{count_start, count_next, count_end}
-use Rattle.texts.proofs.steps.Goals as goal
+use Rattle.texts.proofs.steps_to.Goals as goal
 
 pub loop-j-init : goal.loop-j-init
 loop-j-init c = count_start c.args.scratch.now c.args.i

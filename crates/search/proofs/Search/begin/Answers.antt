@@ -1,0 +1,7 @@
+-- The first node is all that is taken up. Assumes nothing.
+use mathlib.Core.Path.{refl}
+use Rattle.search.proofs.Visiting.{search_begin}
+use Rattle.search.proofs.Search.begin.Goals as goal
+
+pub returns : goal.returns
+returns c = search_begin c.args.scratch.now c.push.new.scratch c.args.start _ c.requires.0 c.requires.1 c.push.ensures c.only.ensures refl refl refl

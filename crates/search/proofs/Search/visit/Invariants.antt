@@ -1,0 +1,10 @@
+-- The loop only passes heads that have no new node one step on. Assumes nothing.
+use Rattle.std.proofs.Common.{◌-◌, ◌≡◌}
+use Rattle.search.specs.Search.{SoundSearch}
+use Rattle.search.proofs.Search.visit.Given as goal
+
+abbrev pub invariant-loop-self : goal.invariant-loop-self
+invariant-loop-self l = (l.scratch ≡ l.initial.scratch) × (l.self.tail ≡ l.initial.self.tail) × SoundSearch l.steps l.scratch l.self
+
+abbrev pub decreases-loop-self : goal.decreases-loop-self
+decreases-loop-self l = l.self.tail - l.self.head
