@@ -1,102 +1,104 @@
--- The loop of a step: entry after entry of the new row is filled, from a row that the stores do not touch. Assumes nothing.
-use Rattle.std.proofs.Common.{◌≡◌, ℕ, ◌+◌, ◌*◌, ◌%◌, ◌^◌, ◌<◌, ◌≤◌, min, max, Bool, true, false, ◌&&◌, ◌||◌, eqb, ltb, List, length, get_or, set, sym, refl, ap, ◌∙◌, subst, ⊎_elim, arith, length-set, get_or-set_other, get_or-set_same, le-ltb, lt-ltb, eqb-true}
+-- The loop of a step: cell after cell of the new row is filled. Assumes nothing.
+use Rattle.std.proofs.Common.{◌≡◌, ℕ, ◌+◌, ◌%◌, ◌^◌, ◌<◌, Bool, true, false, ◌&&◌, ◌||◌, eqb, ltb, List, length, get_or, set, sym, ap, ◌∙◌, subst, ⊎_elim, arith, length-set, get_or-set_other, get_or-set_same, le-ltb, lt-ltb, eqb-true}
 use mathlib.Core.Bool.{or_assoc, or-false, false≢true}
-use Rattle.std.specs.Prelude.{if◌then◌else◌}
-use Rattle.basics.specs.Folds.{any_if, Less}
-use Rattle.basics.proofs.Tests.{and_parts, or_cases, by_equal, if_yes, if_no}
-use Rattle.basics.proofs.Folds.{fold_same}
-use Rattle.bits.specs.Bits.{has_bit, Least}
+use Rattle.basics.specs.Folds.{any_if}
+use Rattle.basics.proofs.Tests.{or_cases, by_equal}
+use Rattle.bits.specs.Bits.{has_bit, Taken}
 use Rattle.bits.proofs.Laws.{has_none, has_high, lt_of_high, member_below}
 use Rattle.bits.proofs.Walk.{any_turn, walk_end, kept}
-use Rattle.frontier.specs.Rows.{cell, stored, arriving, weight, weighted, new_count, new_credit, Outside, Filled, Stepped}
+use Rattle.frontier.specs.Rows.{count_at, most_at, count_of, most_of, arriving, weighted, Stepped}
+use Rattle.frontier.specs.declared.Cell.{Cell}
+use Rattle.frontier.specs.declared.Links.{Links}
+use Rattle.frontier.specs.declared.Row.{Row}
 
-pub fill_start : (to : ℕ) (v : ℕ → ℕ) (xs : List ℕ) → Filled to 0 v xs xs
-fill_start to v xs = record { size = refl; made = λ i e. absurd (false≢true (sym (has_none i) ∙ e)); kept = λ j o. refl }
+abbrev no_cell : Cell
+no_cell = record { count = 0; most = 0 }
 
--- a store at entry t, which may be a member then
-pub fill_on : (to out out' t x : ℕ) (v : ℕ → ℕ) (s : Bool) (xs ys : List ℕ) → Filled to out v xs ys → ((j : ℕ) → has_bit out' j ≡ (has_bit out j || (s && eqb t j)))
-    → t < 61 → to + 61 ≤ length xs → x ≡ v t → Filled to out' v xs (set ys (to + t) x)
-fill_on to out out' t x v s xs ys h e low room same = record {
-  size = length-set ys (to + t) x ∙ h.size;
-  made = λ i k.
-      by_equal t i
-      (λ z. subst (λ (j : ℕ). cell (set ys (to + t) x) to j ≡ v j) z (get_or-set_same ys (to + t) x 0 (omega (arith, h.size)) ∙ same))
-      (λ d.
-      get_or-set_other ys (to + t) (to + i) x 0 (λ z. d (omega arith))
-      ∙ h.made i (⊎_elim (λ m. m) (λ m. absurd (d (eqb-true t i (and_parts s (eqb t i) m).1))) (or_cases (has_bit out i) (s && eqb t i) (sym (e i) ∙ k))));
-  kept = λ j o. get_or-set_other ys (to + t) j x 0 (o t low) ∙ h.kept j o;
-}
+module _ (links : Links) (holds : ℕ) (row : Row) where
+  abbrev members : ℕ → ℕ
+  members i = arriving links.before.now row.active i
 
--- the same where nothing is stored unless it is one
-pub fill_if : (to out out' t x : ℕ) (v : ℕ → ℕ) (s : Bool) (xs ys : List ℕ) → Filled to out v xs ys → ((j : ℕ) → has_bit out' j ≡ (has_bit out j || (s && eqb t j)))
-    → t < 61 → to + 61 ≤ length xs → x ≡ v t → Filled to out' v xs (if s then set ys (to + t) x else ys)
-fill_if to out out' t x v true xs ys h e low room same = fill_on to out out' t x v true xs ys h e low room same
-fill_if to out out' t x v false xs ys h e low room same = record { size = h.size; made = λ i k. h.made i (sym (or-false (has_bit out i)) ∙ sym (e i) ∙ k); kept = h.kept }
+  -- can position i be reached
+  abbrev reached : ℕ → Bool
+  reached i = ltb 0 (members i)
 
--- what is stored, by whether the set has a member
-pub stored_none : (members at x : ℕ) (xs : List ℕ) → members ≡ 0 → xs ≡ stored members xs at x
-stored_none members at x xs e = sym (if_no (set xs at x) xs (ltb 0 members) (le-ltb 0 members (omega arith)))
+  -- a cell that position i may have
+  pub record Filled (i : ℕ) (cell : Cell) : Type 0 where
+    pub counted : cell.count ≡ count_of (members i) (weighted links.more i (count_at row.cells))
+    pub marked : cell.most ≡ (most_of (members i) (most_at row.cells) + get_or links.credits.now i 0) % 2 ^ 32
 
-pub stored_some : (members at x y : ℕ) (xs : List ℕ) → (members ≡ 0 → ⊥) → x ≡ y → set xs at x ≡ stored members xs at y
-stored_some members at x y xs d e = ap (set xs at) e ∙ sym (if_yes (set xs at y) xs (ltb 0 members) (lt-ltb 0 members (omega (arith, d))))
+  -- the positions in `left` wait, and `out` has those of the others that can be reached
+  pub record Filling (cells : List Cell) (left out : ℕ) : Type 0 where
+    pub small : left < 2 ^ 61
+    pub fits : out < 2 ^ 64
+    pub size : length cells ≡ 61
+    pub states : (j : ℕ) → (has_bit out j || any_if (has_bit left) (λ i. reached i && eqb i j) 61) ≡ (has_bit holds j && reached j)
+    pub filled : (i : ℕ) → has_bit out i ≡ true → Filled i (get_or cells i no_cell)
 
--- ---- the positions in `left` wait, and `out` has those of the others that can be reached
+  pub below : {cells : List Cell} {left out t r : ℕ} → Filling cells left out → Taken has_bit (λ (m : ℕ). m) left t r → t < 61
+  below {left} {t} h taken = member_below 61 left t h.small taken.least.here
 
-abbrev reached : List ℕ → ℕ → ℕ → Bool
-reached before active i = ltb 0 (arriving before active i)
-
-pub record Filling (linked : Bool) (more before credits : List ℕ) (from to active holds : ℕ) (counts₀ best₀ counts best : List ℕ) (left out : ℕ) : Type 0 where
-  pub small : left < 2 ^ 61
-  pub fits : out < 2 ^ 64
-  pub states : (j : ℕ) → (has_bit out j || any_if (has_bit left) (λ i. reached before active i && eqb i j) 61) ≡ (has_bit holds j && reached before active j)
-  pub counted : Filled to out (new_count linked more before active from counts₀) counts₀ counts
-  pub marked : Filled to out (new_credit before credits active from best₀) best₀ best
-
-module _ (linked : Bool) (more before credits : List ℕ) (from to active holds : ℕ) (counts₀ best₀ : List ℕ) (low : holds < 2 ^ 61) where
-  pub filling_start : Filling linked more before credits from to active holds counts₀ best₀ counts₀ best₀ holds 0
-  filling_start = record {
+  pub filling_start : (low : holds < 2 ^ 61) (cells : List Cell) → length cells ≡ 61 → Filling cells holds 0
+  filling_start low cells size = record {
     small = low;
     fits = omega arith;
-    states = λ j. ap (λ (b : Bool). b || any_if (has_bit holds) (λ i. reached before active i && eqb i j) 61) (has_none j) ∙ kept 61 holds low (reached before active) j;
-    counted = fill_start to (new_count linked more before active from counts₀) counts₀;
-    marked = fill_start to (new_credit before credits active from best₀) best₀;
+    size = size;
+    states = λ j. ap (λ (b : Bool). b || any_if (has_bit holds) (λ i. reached i && eqb i j) 61) (has_none j) ∙ kept 61 holds low reached j;
+    filled = λ i e. absurd (false≢true (sym (has_none i) ∙ e));
   }
 
-  module _ (counts best : List ℕ) (left out : ℕ) (h : Filling linked more before credits from to active holds counts₀ best₀ counts best left out) where
-    pub filling_on : ((i : ℕ) → i < 61 → Outside to (from + i)) → to + 61 ≤ length counts₀ → to + 61 ≤ length best₀ → (t r out' : ℕ) → Least left t → Less (has_bit left) t (has_bit r)
-        → r < left → out' < 2 ^ 64 → ((j : ℕ) → has_bit out' j ≡ (has_bit out j || (reached before active t && eqb t j))) → (counts' best' : List ℕ)
-        → counts' ≡ stored (arriving before active t) counts (to + t) (new_count linked more before active from counts t)
-        → best' ≡ stored (arriving before active t) best (to + t) (new_credit before credits active from best t)
-        → Filling linked more before credits from to active holds counts₀ best₀ counts' best' r out'
-    filling_on apart roomC roomB t r out' l less falls fits e counts' best' ec eb =
-        let here = member_below 61 left t h.small l.here in
-        let m = arriving before active t in
+  module _ (cells : List Cell) (left out : ℕ) (h : Filling cells left out) where
+    -- position t is taken: it is reached or not
+    states_on : (s : Bool) (t r out' : ℕ) → Taken has_bit (λ (m : ℕ). m) left t r → reached t ≡ s → ((j : ℕ) → has_bit out' j ≡ (has_bit out j || (s && eqb t j)))
+        → (j : ℕ) → (has_bit out' j || any_if (has_bit r) (λ i. reached i && eqb i j) 61) ≡ (has_bit holds j && reached j)
+    states_on s t r out' taken is e j =
+        ap (λ (b : Bool). b || any_if (has_bit r) (to_be j) 61) (e j ∙ ap (λ (b : Bool). has_bit out j || (b && eqb t j)) (sym is))
+        ∙ or_assoc (has_bit out j) (to_be j t) (any_if (has_bit r) (to_be j) 61)
+        ∙ ap (λ (b : Bool). has_bit out j || b) (sym (any_turn 61 left t r h.small taken (to_be j))) ∙ h.states j
+      where
+        to_be : ℕ → ℕ → Bool
+        to_be j i = reached i && eqb i j
+
+    pub filling_on : (t r out' : ℕ) (cell : Cell) → Taken has_bit (λ (m : ℕ). m) left t r → (members t ≡ 0 → ⊥) → out' < 2 ^ 64
+        → ((j : ℕ) → has_bit out' j ≡ (has_bit out j || eqb t j)) → Filled t cell → Filling (set cells t cell) r out'
+    filling_on t r out' cell taken some fits e made =
+        let low = member_below 61 left t h.small taken.least.here in
+        let fewer = taken.fewer in
         record {
           small = omega (arith, h.small);
           fits = fits;
-          states = λ j.
-              ap (λ (b : Bool). b || any_if (has_bit r) (to_be j) 61) (e j) ∙ or_assoc (has_bit out j) (to_be j t) (any_if (has_bit r) (to_be j) 61)
-              ∙ ap (λ (b : Bool). has_bit out j || b) (sym (any_turn 61 left t r h.small (record { least = l; others = less; fewer = falls }) (to_be j))) ∙ h.states j;
-          counted = subst (Filled to out' (new_count linked more before active from counts₀) counts₀) (sym ec)
-              (fill_if to out out' t (new_count linked more before active from counts t) (new_count linked more before active from counts₀) (reached before active t) counts₀ counts h.counted e here roomC
-              (ap (λ (x : ℕ). min x (2 ^ 63)) (fold_same 0 ◌+◌ (has_bit m) (has_bit m) (weighted linked more t (cell counts from)) (weighted linked more t (cell counts₀ from)) 61 (λ i k. refl)
-              (λ i k y. ap (λ (x : ℕ). weight linked more i t * x) (h.counted.kept (from + i) (apart i k))))));
-          marked = subst (Filled to out' (new_credit before credits active from best₀) best₀) (sym eb)
-              (fill_if to out out' t (new_credit before credits active from best t) (new_credit before credits active from best₀) (reached before active t) best₀ best h.marked e here roomB
-              (ap (λ (x : ℕ). (x + get_or credits t 0) % 2 ^ 32) (fold_same 0 max (has_bit m) (has_bit m) (cell best from) (cell best₀ from) 61 (λ i k. refl) (λ i k y. h.marked.kept (from + i) (apart i k)))));
+          size = length-set cells t cell ∙ h.size;
+          states = states_on true t r out' taken (lt-ltb 0 (members t) (omega (arith, some))) e;
+          filled = λ i k.
+              by_equal t i
+              (λ z. subst (λ (j : ℕ). Filled j (get_or (set cells t cell) j no_cell)) z (subst (Filled t) (sym (get_or-set_same cells t cell no_cell (omega (arith, h.size)))) made))
+              (λ d.
+              subst (Filled i) (sym (get_or-set_other cells t i cell no_cell (λ z. d (sym z))))
+              (h.filled i (⊎_elim (λ m. m) (λ m. absurd (d (eqb-true t i m))) (or_cases (has_bit out i) (eqb t i) (sym (e i) ∙ k)))));
         }
-      where
-        to_be : ℕ → ℕ → Bool
-        to_be j i = reached before active i && eqb i j
 
-    pub filling_end : left ≡ 0 → Stepped linked more before credits from to active holds counts₀ best₀ counts best out
-    filling_end z = record {
-      small = lt_of_high 61 out h.fits (λ j l. states j ∙ ap (λ (b : Bool). b && reached before active j) (has_high 61 holds j low l));
-      states = states;
-      counted = h.counted;
-      marked = h.marked;
-    }
+    pub filling_past : (t r : ℕ) → Taken has_bit (λ (m : ℕ). m) left t r → members t ≡ 0 → Filling cells r out
+    filling_past t r taken none =
+        let fewer = taken.fewer in
+        record {
+          small = omega (arith, h.small);
+          fits = h.fits;
+          size = h.size;
+          states = states_on false t r out taken (le-ltb 0 (members t) (omega (arith, none))) (λ j. sym (or-false (has_bit out j)));
+          filled = h.filled;
+        }
+
+    pub filling_end : holds < 2 ^ 61 → ((i : ℕ) → has_bit left i ≡ false)
+        → (out < 2 ^ 61) × ((next : Row) → next.active ≡ out → next.cells ≡ cells → Stepped links holds row next)
+    filling_end low none = (
+      lt_of_high 61 out h.fits (λ j l. states j ∙ ap (λ (b : Bool). b && reached j) (has_high 61 holds j low l)),
+      λ next a c. record {
+        states = λ j. ap (λ (m : ℕ). has_bit m j) a ∙ states j;
+        counted = λ j e. ap (λ (l : List Cell). count_at l j) c ∙ (h.filled j (sym (ap (λ (m : ℕ). has_bit m j) a) ∙ e)).counted;
+        marked = λ j e. ap (λ (l : List Cell). most_at l j) c ∙ (h.filled j (sym (ap (λ (m : ℕ). has_bit m j) a) ∙ e)).marked;
+      },
+    )
       where
-        states : (j : ℕ) → has_bit out j ≡ (has_bit holds j && reached before active j)
+        states : (j : ℕ) → has_bit out j ≡ (has_bit holds j && reached j)
         states j =
-            sym (ap (λ (b : Bool). has_bit out j || b) (walk_end false ◌||◌ (λ i. reached before active i && eqb i j) 61 left (λ i. ap (λ (m : ℕ). has_bit m i) z ∙ has_none i)) ∙ or-false (has_bit out j)) ∙ h.states j
+            sym (ap (λ (b : Bool). has_bit out j || b) (walk_end false ◌||◌ (λ i. reached i && eqb i j) 61 left none) ∙ or-false (has_bit out j)) ∙ h.states j

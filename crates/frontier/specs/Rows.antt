@@ -1,12 +1,18 @@
--- Rows over the states, in memory that may hold anything else. A row is a set of possible states and, from an offset on, 61 counts
--- and 61 credits, of which only those of possible states mean anything.
-use Rattle.std.specs.Prelude.{◌≡◌, ℕ, suc, ◌+◌, ◌*◌, ◌%◌, ◌^◌, ◌<◌, min, Bool, true, ◌&&◌, List, length, ◌≢◌, bit_and, nat_lt, slice_index, slice_set, if◌then◌else◌}
+-- Rows over the states: a set of possible states and a cell for each, with a count and a credit.
+use Rattle.std.specs.Prelude.{◌≡◌, ℕ, suc, ◌+◌, ◌*◌, ◌%◌, ◌^◌, ◌<◌, min, true, ◌&&◌, List, bit_and, nat_lt, slice_index, get_or, Option, None, Some}
+use Rattle.std.specs.Borrow.{Bor}
 use Rattle.basics.specs.Folds.{sum_if, most_if}
 use Rattle.bits.specs.Bits.{has_bit}
+use Rattle.frontier.specs.declared.Cell.{Cell}
+use Rattle.frontier.specs.declared.Links.{Links}
+use Rattle.frontier.specs.declared.Row.{Row}
 
--- entry u of the row that begins at `from`
-abbrev pub cell : List ℕ → ℕ → ℕ → ℕ
-cell xs from u = slice_index xs (from + u)
+-- the count and the credit in entry u
+abbrev pub count_at : List Cell → ℕ → ℕ
+count_at cells u = (get_or cells u record { count = 0; most = 0 }).count
+
+abbrev pub most_at : List Cell → ℕ → ℕ
+most_at cells u = (get_or cells u record { count = 0; most = 0 }).most
 
 -- over the members of a set: the sum of the counts, 2 ^ 63 where it is more, and the greatest credit
 abbrev pub count_of : ℕ → (ℕ → ℕ) → ℕ
@@ -15,6 +21,16 @@ count_of m row = min (sum_if (has_bit m) row 61) (2 ^ 63)
 abbrev pub most_of : ℕ → (ℕ → ℕ) → ℕ
 most_of m row = most_if (has_bit m) row 61
 
+-- what `gives` makes of the counts of a row is v, as far as 2 ^ 63
+abbrev pub Weighs : (ℕ → ℕ → ℕ → Type 0) → (ℕ → ℕ) → (ℕ → ℕ) → Type 0
+Weighs gives row v = (u n : ℕ) → u < 61 → gives u (row u) n → min n (2 ^ 63) ≡ min (v u) (2 ^ 63)
+
+-- before any letter: state 0 alone, with one reading that has earned nothing
+pub record Begun (row : Row) : Type 0 where
+  pub alone : row.active ≡ 1
+  pub one : count_at row.cells 0 ≡ 1
+  pub nothing : most_at row.cells 0 ≡ 0
+
 -- ---- one letter on
 
 -- the possible states that position i may follow
@@ -22,37 +38,18 @@ abbrev pub arriving : List ℕ → ℕ → ℕ → ℕ
 arriving before active i = bit_and (slice_index before i) active
 
 -- how many links lead from state u to position i, where it may follow: one, and where there can be more, those of the table
-abbrev pub weight : Bool → List ℕ → ℕ → ℕ → ℕ
-weight linked more u i = if linked then suc (slice_index more (61 * u + i)) else 1
+abbrev pub weight : Option (Bor (List ℕ)) → ℕ → ℕ → ℕ
+weight None u i = 1
+weight (Some more) u i = suc (slice_index more.now (61 * u + i))
 
 -- the counts of a row, each once for each link to position i
-abbrev pub weighted : Bool → List ℕ → ℕ → (ℕ → ℕ) → ℕ → ℕ
-weighted linked more i row u = weight linked more u i * row u
+abbrev pub weighted : Option (Bor (List ℕ)) → ℕ → (ℕ → ℕ) → ℕ → ℕ
+weighted more i row u = weight more u i * row u
 
--- what position i gets: their counts by the links, and their greatest credit with its own, which may wrap
-abbrev pub new_count : Bool → List ℕ → List ℕ → ℕ → ℕ → List ℕ → ℕ → ℕ
-new_count linked more before active from counts i = count_of (arriving before active i) (weighted linked more i (cell counts from))
-
-abbrev pub new_credit : List ℕ → List ℕ → ℕ → ℕ → List ℕ → ℕ → ℕ
-new_credit before credits active from best i = (most_of (arriving before active i) (cell best from) + slice_index credits i) % 2 ^ 32
-
--- x put at `at`, where the set has a member
-abbrev pub stored : ℕ → List ℕ → ℕ → ℕ → List ℕ
-stored members xs at x = if nat_lt 0 members then slice_set xs at x else xs
-
--- j lies outside the row that begins at `to`
-abbrev pub Outside : ℕ → ℕ → Type 0
-Outside to j = (i : ℕ) → i < 61 → j ≢ to + i
-
--- ys is xs but for the row that begins at `to`, where each member i of a set has v i
-pub record Filled (to members : ℕ) (v : ℕ → ℕ) (xs ys : List ℕ) : Type 0 where
-  pub size : length ys ≡ length xs
-  pub made : (i : ℕ) → has_bit members i ≡ true → cell ys to i ≡ v i
-  pub kept : (j : ℕ) → Outside to j → slice_index ys j ≡ slice_index xs j
-
--- the row at `to` from the row at `from`, by a letter that the positions of `holds` hold: r is the set of possible states
-pub record Stepped (linked : Bool) (more before credits : List ℕ) (from to active holds : ℕ) (counts best counts' best' : List ℕ) (r : ℕ) : Type 0 where
-  pub small : r < 2 ^ 61
-  pub states : (i : ℕ) → has_bit r i ≡ (has_bit holds i && nat_lt 0 (arriving before active i))
-  pub counted : Filled to r (new_count linked more before active from counts) counts counts'
-  pub marked : Filled to r (new_credit before credits active from best) best best'
+-- the row after a letter that the positions of `holds` hold. Each position gets the counts by the links, and the greatest credit with its
+-- own, which may wrap.
+pub record Stepped (links : Links) (holds : ℕ) (row next : Row) : Type 0 where
+  pub states : (i : ℕ) → has_bit next.active i ≡ (has_bit holds i && nat_lt 0 (arriving links.before.now row.active i))
+  pub counted : (i : ℕ) → has_bit next.active i ≡ true → count_at next.cells i ≡ count_of (arriving links.before.now row.active i) (weighted links.more i (count_at row.cells))
+  pub marked : (i : ℕ) → has_bit next.active i ≡ true
+      → most_at next.cells i ≡ (most_of (arriving links.before.now row.active i) (most_at row.cells) + slice_index links.credits.now i) % 2 ^ 32

@@ -1,183 +1,114 @@
-// Rows of counts and credits over the states of a graph, for marking. A row has an entry for each state, 61 counts and 61 credits,
-// from an offset on in two slices, and a set of the states that are possible: an entry of any other state means nothing. Counts stop
-// at 2^63. The slices may be memory that a caller lends: no contract asks what is in it.
+// Rows of counts and credits over the states of a graph, for marking. Counts stop at 2^63.
 #![tactic(auto)]
 
-ghost use Rattle.std.specs.Prelude.{◌≡◌, ℕ, suc, ◌+◌, ◌*◌, ◌%◌, ◌^◌, ◌<◌, ◌≤◌, min, max, true, length};
-ghost use Rattle.frontier.specs.Rows.{cell, stored, count_of, most_of, weighted, Outside, Stepped};
+ghost use Rattle.std.specs.Prelude.{◌≡◌, ℕ, suc, ◌+◌, ◌*◌, ◌^◌, ◌<◌, min};
 
-// One letter on: the row at `to` from the row at `from`, whose possible states are `active`, by a letter that the positions of
-// `holds` hold. A count goes over once for each link: `more` has at 61 * u + i how many lead from state u to position i beyond the
-// first, and plays no part unless `linked`. Returns the states that are possible then.
-pub fn step(
-    counts: &mut [u64],
-    best: &mut [u32],
-    from: usize,
-    to: usize,
-    active: u64,
-    holds: u64,
-    before: &[u64; 61],
-    credits: &[u8; 61],
-    linked: bool,
-    more: &[u8],
-) -> u64
-    requires { (active < 2 ^ 61) × (holds < 2 ^ 61) × (from + 61 ≤ length counts.old) × (from + 61 ≤ length best.old) × (to + 61 ≤ length counts.old)
-        × (to + 61 ≤ length best.old) × ((i : ℕ) → i < 61 → Outside to (from + i)) × (3721 ≤ length more.now) }
-    ensures { Stepped linked more.now before.now credits.now from to active holds counts.old best.old counts.new best.new result }
-{
-    let mut left = holds;
-    let mut out = 0;
-    while left != 0 {
-        let i = bits::lowest(left);
-        let members = before[i] & active;
-        fill(
-            counts,
-            best,
-            from,
-            to + i,
-            members,
-            credits[i],
-            linked,
-            more,
-            i,
-        );
-        out = bits::with_if(out, i, 0 < members);
-        left = bits::rest(left);
-    }
-    out
-}
-
-// Counts taken together, and the greatest of some credits.
+// Readings counted, and the greatest sum of credits that one of them has.
 #[derive(Clone, Copy)]
-pub struct Sum {
+pub struct Cell {
     pub count: u64,
     pub most: u32,
 }
 
-// The counts of the members of a set taken together, and their greatest credit, in the row that begins at `from`.
-pub fn gather(counts: &[u64], best: &[u32], from: usize, members: u64) -> Sum
-    requires { (members < 2 ^ 61) × (from + 61 ≤ length counts.now) × (from + 61 ≤ length best.now) }
-    ensures { (result.count ≡ count_of members (cell counts.now from)) × (result.most ≡ most_of members (cell best.now from)) }
-{
-    let mut left = members;
-    let mut count = 0;
-    let mut most = 0;
-    while left != 0 {
-        let u = bits::lowest(left);
-        count = plus(count, counts[from + u]);
-        most = greater(most, best[from + u]);
-        left = bits::rest(left);
-    }
-    Sum {
-        count: count,
-        most: most,
-    }
+// What a step looks up: for each position the states before it and its credit, and where there can be several links from a state to
+// a position, at 61 * u + i how many lead from state u to position i beyond the first.
+#[derive(Clone, Copy)]
+pub struct Links<'a> {
+    pub before: &'a [u64; 61],
+    pub credits: &'a [u8; 61],
+    pub more: Option<&'a [u8; 3721]>,
 }
 
-// The same for position i, the count of each member once for each link from it to i.
-fn gather_links(
-    counts: &[u64],
-    best: &[u32],
-    from: usize,
-    members: u64,
-    more: &[u8],
-    i: usize,
-) -> Sum
-    requires { (members < 2 ^ 61) × (from + 61 ≤ length counts.now) × (from + 61 ≤ length best.now) × (3721 ≤ length more.now) × (i < 61) }
-    ensures { (result.count ≡ count_of members (weighted true more.now i (cell counts.now from)))
-        × (result.most ≡ most_of members (cell best.now from)) }
-{
-    let mut left = members;
-    let mut count = 0;
-    let mut most = 0;
-    while left != 0 {
-        let u = bits::lowest(left);
-        count = plus(count, times(counts[from + u], more[61 * u + i]));
-        most = greater(most, best[from + u]);
-        left = bits::rest(left);
-    }
-    Sum {
-        count: count,
-        most: most,
-    }
+// The states that are possible after some letters, and a cell for each: that of any other state means nothing.
+#[derive(Drop)]
+pub struct Row {
+    pub active: u64,
+    pub cells: [Cell; 61],
+    ghost states: { active < 2 ^ 61 },
 }
 
-// What the members give position i: without `linked` one link leads to it from each.
-fn gather_for(
-    counts: &[u64],
-    best: &[u32],
-    from: usize,
-    members: u64,
-    linked: bool,
-    more: &[u8],
-    i: usize,
-) -> Sum
-    requires { (members < 2 ^ 61) × (from + 61 ≤ length counts.now) × (from + 61 ≤ length best.now) × (3721 ≤ length more.now) × (i < 61) }
-    ensures { (result.count ≡ count_of members (weighted linked more.now i (cell counts.now from)))
-        × (result.most ≡ most_of members (cell best.now from)) }
-{
-    if linked {
-        return gather_links(counts, best, from, members, more, i);
-    }
-    gather(counts, best, from, members)
-}
+impl Row {
+    ghost use Rattle.std.specs.Prelude.{true, bit_and};
+    ghost use Rattle.bits.specs.Bits.{has_bit};
+    ghost use Rattle.frontier.specs.Rows.{Begun, Stepped, count_at, most_at, count_of, most_of, weighted, Weighs};
 
-// The entry of position i, at `at`, from the members of a set in the row that begins at `from`, with a credit more; where there is
-// no member nothing is stored. Credits wrap: those of a row that was made here are far too small for it.
-fn fill(
-    counts: &mut [u64],
-    best: &mut [u32],
-    from: usize,
-    at: usize,
-    members: u64,
-    credit: u8,
-    linked: bool,
-    more: &[u8],
-    i: usize,
-)
-    requires { (members < 2 ^ 61) × (from + 61 ≤ length counts.old) × (from + 61 ≤ length best.old) × (at < length counts.old) × (at < length best.old)
-        × (3721 ≤ length more.now) × (i < 61) }
-    ensures { (counts.new ≡ stored members counts.old at (count_of members (weighted linked more.now i (cell counts.old from))))
-        × (best.new ≡ stored members best.old at ((most_of members (cell best.old from) + credit) % 2 ^ 32)) }
-{
-    if members == 0 {
-        return;
+    // Before any letter: state 0 alone is possible, by one reading that has earned nothing.
+    pub fn start() -> Row
+        ensures { Begun result }
+    {
+        let mut cells = [Cell { count: 0, most: 0 }; 61];
+        cells[0].count = 1;
+        Row { active: 1, cells }
     }
-    let here = gather_for(counts, best, from, members, linked, more, i);
-    counts[at] = here.count;
-    best[at] = std::num::wrapping_add_u32(here.most, credit as u32);
+
+    // One letter on, by a letter that the positions of `holds` hold: the row after it is stored in `next`.
+    pub fn step(&self, next: &mut Row, holds: u64, links: &Links)
+        requires { holds < 2 ^ 61 }
+        ensures { Stepped links.now holds self.now next.new }
+    {
+        let mut active = 0;
+        for i in bits::members(holds) {
+            let members = links.before[i] & self.active;
+            if members != 0 {
+                let arrived = self.arrivals(members, links, i);
+                next.cells[i] = Cell {
+                    count: arrived.count,
+                    most: arrived.most.wrapping_add(links.credits[i] as u32),
+                };
+                active = bits::with(active, i);
+            }
+        }
+        next.active = active;
+    }
+
+    // What the members of a set give position i: the count of each once for each link from it.
+    fn arrivals(&self, members: u64, links: &Links, i: usize) -> Cell
+        requires { (members < 2 ^ 61) × (i < 61) }
+        ensures { (result.count ≡ count_of members (weighted links.now.more i (count_at self.now.cells))) × (result.most ≡ most_of members (most_at self.now.cells)) }
+    {
+        match links.more {
+            Some(more) => self.gather(members, |u, count| times(count, more[61 * u + i])),
+            None => self.gather(members, |_, count| count),
+        }
+    }
+
+    // What the possible states at which a reading may end come to.
+    pub fn total(&self, lasts: u64) -> Cell
+        ensures { (result.count ≡ count_of (bit_and self.now.active lasts) (count_at self.now.cells)) × (result.most ≡ most_of (bit_and self.now.active lasts) (most_at self.now.cells)) }
+    {
+        self.gather(self.active & lasts, |_, count| count)
+    }
+
+    // The cells of the members of a set taken together, each count as `weigh` gives it.
+    fn gather<F: Fn(usize, u64) -> u64>(&self, members: u64, weigh: F) -> Cell
+        requires { (members < 2 ^ 61) × ((u : ℕ) → u < 61 → F.pre weigh u (count_at self.now.cells u)) }
+        ensures { ((v : ℕ → ℕ) → Weighs (F.post weigh) (count_at self.now.cells) v → result.count ≡ count_of members v)
+            × (result.most ≡ most_of members (most_at self.now.cells)) }
+    {
+        let mut count = 0;
+        let mut most = 0;
+        for u in bits::members(members) {
+            let cell = self.cells[u];
+            count = plus(count, weigh(u, cell.count));
+            most = cell.most.max(most);
+        }
+        Cell { count, most }
+    }
 }
 
 // Where counts stop.
 const MOST: u64 = 0x8000_0000_0000_0000;
 
-// The sum, 2^63 where it is more, of any two numbers.
+// The sum, 2^63 where it is more.
 fn plus(x: u64, y: u64) -> u64
     ensures { result ≡ min (x + y) (2 ^ 63) }
 {
-    if y < MOST {
-        if x < MOST - y {
-            return x + y;
-        }
-    }
-    MOST
+    x.saturating_add(y).min(MOST)
 }
 
-// A number taken once, and as often again as `more` says, 2^63 where that is above it. The product with the 256th part of the number
-// shows whether the whole product fits.
+// A number taken once, and as often again as `more` says, 2^63 where that is above it.
 fn times(x: u64, more: u8) -> u64
     ensures { result ≡ min (suc more * x) (2 ^ 63) }
 {
-    let n = more as u64 + 1;
-    if x / 256 * n < MOST / 256 {
-        return plus(0, x * n);
-    }
-    MOST
-}
-
-// The greater of two numbers.
-fn greater(x: u32, y: u32) -> u32
-    ensures { result ≡ max x y }
-{
-    if x <= y { y } else { x }
+    x.saturating_mul(more as u64 + 1).min(MOST)
 }

@@ -15,7 +15,8 @@ use lib.Dec.{eqb, ltb}
 use lib.IntN.{ℤ, pos, nat_abs, ◌+ℤ◌, +ℤ_idr}
 use lib.ListN.{length, get_or, length-append}
 use borrow.Author.Tests.{eqb-true, eq-eqb, ne_eqb, ltb-true, ltb-false}
-use Rattle.std.specs.Prelude.{if◌then◌else◌}
+use Rattle.std.specs.Prelude.{if◌then◌else◌, Option, None, Some}
+use Rattle.std.specs.Borrow.{Bor}
 use Rattle.basics.specs.Folds.{fold_if, sum_if, any_if}
 use Rattle.basics.proofs.Tests.{and_parts, by_test, le_or_lt, if_yes, if_no, if_either}
 use Rattle.basics.proofs.Lists.{within_any}
@@ -31,8 +32,10 @@ use Rattle.graph.proofs.Walks.{position_of}
 use Rattle.graph.proofs.Best.{better_none, better_comm, better_assoc, added_better, added_twice, added_nothing, lowered_adds, lowered_low, raised_low}
 use Rattle.graph.proofs.Marks.{mark_none}
 use Rattle.graph.proofs.Taken.{possible_live}
-use Rattle.frontier.specs.Rows.{cell, count_of, most_of, arriving, weight, weighted, Stepped}
-use Rattle.marks.specs.Answers.{best_of, Row, links_of_tables, Summed}
+use Rattle.frontier.specs.Rows.{count_at, most_at, count_of, most_of, arriving, weight, weighted, Begun, Stepped}
+use Rattle.frontier.specs.declared.Links.{Links}
+use Rattle.frontier.specs.declared.Row.{Row}
+use Rattle.marks.specs.Answers.{best_of, After, links_of_tables, Summed}
 use Rattle.marks.proofs.Values.{sum_cut, sum_times, best_added}
 
 no_members : (m : ℕ) → m ≡ 0 → (i : ℕ) → has_bit m i ≡ false
@@ -77,10 +80,10 @@ module _ (g : Graph) (bounded : Bounded g) (b : ℕ) (before : List ℕ) (active
       here i = fold_if none join (has_bit (arriving before active i)) (λ u. act u (f u i)) 61
 
 -- the tables have a link where they have the state before the position
-some_tables : (t linked : Bool) (n : ℕ) → some (if t then if linked then suc n else 1 else 0) ≡ t
-some_tables true true n = refl
-some_tables true false n = refl
-some_tables false linked n = refl
+some_tables : (t : Bool) (more : Option (Bor (List ℕ))) (u i : ℕ) → some (if t then weight more u i else 0) ≡ t
+some_tables true (Some more) u i = refl
+some_tables true None u i = refl
+some_tables false more u i = refl
 
 -- ---- rows
 
@@ -90,196 +93,208 @@ alone {A} none join f =
     fold_longer none join (has_bit 1) f 1 61 (omega arith) (λ i l. has_pow 0 i ∙ ne_eqb 0 i (λ z. omega arith))
     ∙ fold_yes none join (has_bit 1) f 0 (has_pow 0 0) ∙ ap (λ (a : A). join a (f 0)) (fold_zero none join (has_bit 1) f)
 
-module _ (g : Graph) (from : ℕ) (counts best : List ℕ) (one : cell counts from 0 ≡ 1) (nothing : cell best from 0 ≡ 0) where
-  pub row_begin : Row g [] from 1 counts best
+module _ (g : Graph) (row : Row) (begun : Begun row) where
+  over_one : {A : Type 0} (none : A) (join : A → A → A) (f : ℕ → A) → fold_if none join (has_bit row.active) f 61 ≡ join none (f 0)
+  over_one none join f = ap (λ (m : ℕ). fold_if none join (has_bit m) f 61) begun.alone ∙ alone none join f
+
+  pub row_begin : After g [] row
   row_begin = record {
     counted = λ t.
         ap (λ (x : ℕ). min x (2 ^ 63))
-        (alone 0 ◌+◌ (λ u. cell counts from u * count_from g u t) ∙ zero-add (cell counts from 0 * readings g t)
-        ∙ ap (λ (x : ℕ). x * readings g t) one ∙ one-mul (readings g t));
+        (over_one 0 ◌+◌ (λ u. count_at row.cells u * count_from g u t) ∙ zero-add (count_at row.cells 0 * readings g t)
+        ∙ ap (λ (x : ℕ). x * readings g t) begun.one ∙ one-mul (readings g t));
     marked = λ t.
-        alone no_reading better (λ u. added (lowered 0 (cell best from u)) (best_from g u t))
-        ∙ ap (λ (x : ℕ). added (lowered 0 x) (best_from g 0 t)) nothing ∙ added_nothing (best_from g 0 t);
-    low = λ u e. let z = eqb-true 0 u (sym (has_pow 0 u) ∙ e) in subst (λ (v : ℕ). cell best from v ≤ 0) z (omega (arith, nothing));
-    reached = λ t v. alone false ◌||◌ (λ u. leads g u t v);
+        over_one no_reading better (λ u. added (lowered 0 (most_at row.cells u)) (best_from g u t))
+        ∙ ap (λ (x : ℕ). added (lowered 0 x) (best_from g 0 t)) begun.nothing ∙ added_nothing (best_from g 0 t);
+    low = λ u e.
+        let z = eqb-true 0 u (sym (has_pow 0 u) ∙ ap (λ (m : ℕ). has_bit m u) (sym begun.alone) ∙ e) in
+        subst (λ (v : ℕ). most_at row.cells v ≤ 0) z (omega (arith, begun.nothing));
+    reached = λ t v. over_one false ◌||◌ (λ u. leads g u t v);
   }
 
 -- the greatest raised sum of possible states
-sums_low : (g : Graph) (s : List ℕ) (from active : ℕ) (counts best : List ℕ) → Row g s from active counts best → (m : ℕ) → ((u : ℕ) → has_bit m u ≡ true → has_bit active u ≡ true)
-    → most_of m (cell best from) ≤ 18 * length s
-sums_low g s from active counts best row m h =
-    fold_keeps 0 max (λ (a : ℕ). a ≤ 18 * length s) zero-le (λ a c. max_le a c (18 * length s)) (has_bit m) (cell best from) 61 (λ u l e. row.low u (h u e))
+sums_low : (g : Graph) (s : List ℕ) (row : Row) → After g s row → (m : ℕ) → ((u : ℕ) → has_bit m u ≡ true → has_bit row.active u ≡ true)
+    → most_of m (most_at row.cells) ≤ 18 * length s
+sums_low g s row after m h =
+    fold_keeps 0 max (λ (a : ℕ). a ≤ 18 * length s) zero-le (λ a c. max_le a c (18 * length s)) (has_bit m) (most_at row.cells) 61 (λ u l e. after.low u (h u e))
 
 -- one letter more
-module _ (g : Graph) (bounded : Bounded g) (b : ℕ) (linked : Bool) (more before credits : List ℕ) (from to active holds r : ℕ) (counts best counts' best' : List ℕ) (s : List ℕ)
-    (links : (u i : ℕ) → g.links u i ≡ links_of_tables before linked more u i) (held : (i : ℕ) → g.holds i b ≡ has_bit holds i) (earned : (i : ℕ) → g.credit i ≡ credit_in credits i) (long : length credits ≡ 61)
-    (small : active < 2 ^ 61) (short : length s ≤ 4096) (row : Row g s from active counts best) (st : Stepped linked more before credits from to active holds counts best counts' best' r) where
+module _ (g : Graph) (bounded : Bounded g) (b : ℕ) (tables : Links) (holds : ℕ) (row row' : Row) (s : List ℕ)
+    (links : (u i : ℕ) → g.links u i ≡ links_of_tables tables u i) (held : (i : ℕ) → g.holds i b ≡ has_bit holds i) (earned : (i : ℕ) → g.credit i ≡ credit_in tables.credits.now i) (long : length tables.credits.now ≡ 61)
+    (short : length s ≤ 4096) (after : After g s row) (st : Stepped tables holds row row') where
+  abbrev before_at : ℕ → ℕ
+  before_at i = get_or tables.before.now i 0
+
+  -- the states that arrive at i
+  abbrev arriving_at : ℕ → ℕ
+  arriving_at = arriving tables.before.now row.active
+
   abbrev here : ℕ → ℕ → Bool
-  here i = has_bit (arriving before active i)
+  here i = has_bit (arriving_at i)
 
-  here_parts : (i u : ℕ) → here i u ≡ true → (has_bit (get_or before i 0) u ≡ true) × (has_bit active u ≡ true)
-  here_parts i u e = and_parts (has_bit (get_or before i 0) u) (has_bit active u) (sym (has_and (get_or before i 0) active u) ∙ e)
+  here_parts : (i u : ℕ) → here i u ≡ true → (has_bit (before_at i) u ≡ true) × (has_bit row.active u ≡ true)
+  here_parts i u e = and_parts (has_bit (before_at i) u) (has_bit row.active u) (sym (has_and (before_at i) row.active u) ∙ e)
 
-  follows : (u i : ℕ) → next g u i ≡ has_bit (get_or before i 0) u
-  follows u i = ap some (links u i) ∙ some_tables (has_bit (get_or before i 0) u) linked (get_or more (61 * u + i) 0)
+  follows : (u i : ℕ) → next g u i ≡ has_bit (before_at i) u
+  follows u i = ap some (links u i) ∙ some_tables (has_bit (before_at i) u) tables.more u i
 
   -- a count by the links, times what is to come
-  by_weights : (i u y : ℕ) → here i u ≡ true → weighted linked more i (cell counts from) u * y ≡ cell counts from u * (g.links u i * y)
+  by_weights : (i u y : ℕ) → here i u ≡ true → weighted tables.more i (count_at row.cells) u * y ≡ count_at row.cells u * (g.links u i * y)
   by_weights i u y e =
-      let w = weight linked more u i in
-      let x = cell counts from u in
-      ap (λ (z : ℕ). z * y) (mul_comm w x) ∙ mul_assoc x w y ∙ ap (λ (z : ℕ). x * (z * y)) (sym (links u i ∙ if_yes w 0 (has_bit (get_or before i 0) u) (here_parts i u e).0))
+      let w = weight tables.more u i in
+      let x = count_at row.cells u in
+      ap (λ (z : ℕ). z * y) (mul_comm w x) ∙ mul_assoc x w y ∙ ap (λ (z : ℕ). x * (z * y)) (sym (links u i ∙ if_yes w 0 (has_bit (before_at i) u) (here_parts i u e).0))
 
   -- the greatest raised sum of those that arrive at i
   abbrev most : ℕ → ℕ
-  most i = most_of (arriving before active i) (cell best from)
+  most i = most_of (arriving_at i) (most_at row.cells)
 
   most_low : (i : ℕ) → most i ≤ 18 * length s
-  most_low i = sums_low g s from active counts best row (arriving before active i) (λ u e. (here_parts i u e).1)
+  most_low i = sums_low g s row after (arriving_at i) (λ u e. (here_parts i u e).1)
 
   -- its own raised credit
   abbrev own : ℕ → ℕ
-  own i = get_or credits i 9
+  own i = get_or tables.credits.now i 9
 
   own_low : (i : ℕ) → own i ≤ 18
   own_low i = raised_low (own i) (subst (λ (c : ℤ). nat_abs c ≤ 9) (earned i) (bounded.credits i))
 
-  best_here : (i : ℕ) → has_bit r i ≡ true → cell best' to i ≡ most i + own i
+  best_here : (i : ℕ) → has_bit row'.active i ≡ true → most_at row'.cells i ≡ most i + own i
   best_here i e =
       let m = most_low i in
       let c = own_low i in
-      let q : get_or credits i 0 ≡ own i = within_any credits i 0 9 (omega (arith, member_below 61 r i st.small e)) in
-      st.marked.made i e ∙ ap (λ (x : ℕ). (most i + x) % 2 ^ 32) q ∙ mod-eq_of_lt (omega arith)
+      let q : get_or tables.credits.now i 0 ≡ own i = within_any tables.credits.now i 0 9 (omega (arith, member_below 61 row'.active i row'.states e)) in
+      st.marked i e ∙ ap (λ (x : ℕ). (most i + x) % 2 ^ 32) q ∙ mod-eq_of_lt (omega arith)
 
   -- one raised credit more, for one letter more
-  raised_on : (i : ℕ) → has_bit r i ≡ true → lowered (length (s ++ (b ∷ []))) (cell best' to i) ≡ lowered (length s) (most i) +ℤ g.credit i
+  raised_on : (i : ℕ) → has_bit row'.active i ≡ true → lowered (length (s ++ (b ∷ []))) (most_at row'.cells i) ≡ lowered (length s) (most i) +ℤ g.credit i
   raised_on i e =
       ap₂ lowered (length-append s (b ∷ [])) (best_here i e) ∙ sym (lowered_adds (length s) 1 (most i) (own i)) ∙ ap (λ (c : ℤ). lowered (length s) (most i) +ℤ c) (sym (earned i))
 
   -- some state arrives at i
   abbrev arrives : ℕ → ℕ
-  arrives i = count_trailing_zeros 61 (arriving before active i)
+  arrives i = count_trailing_zeros 61 (arriving_at i)
 
-  some_arrives : (i : ℕ) → has_bit r i ≡ true → (arrives i < 61) × (here i (arrives i) ≡ true)
+  some_arrives : (i : ℕ) → has_bit row'.active i ≡ true → (arrives i < 61) × (here i (arrives i) ≡ true)
   some_arrives i e =
-      let m = arriving before active i in
+      let m = arriving_at i in
       let some = ltb-true 0 m (and_parts (has_bit holds i) (ltb 0 m) (sym (st.states i) ∙ e)).1 in
-      let u = least_trailing 61 m some (lt_of_le_of_lt (and_le_r (get_or before i 0) active) small) in
+      let u = least_trailing 61 m some (lt_of_le_of_lt (and_le_r (before_at i) row.active) row.states) in
       (u.0, u.1.here)
 
-  gathered : (t : List ℕ) (i : ℕ) → has_bit r i ≡ true
-      → added (lowered (length (s ++ (b ∷ []))) (cell best' to i)) (best_from g i t) ≡ best_of (arriving before active i) (λ u. added (lowered (length s) (cell best from u)) (added (g.credit i) (best_from g i t)))
+  gathered : (t : List ℕ) (i : ℕ) → has_bit row'.active i ≡ true
+      → added (lowered (length (s ++ (b ∷ []))) (most_at row'.cells i)) (best_from g i t) ≡ best_of (arriving_at i) (λ u. added (lowered (length s) (most_at row.cells u)) (added (g.credit i) (best_from g i t)))
   gathered t i e =
       let u = some_arrives i e in
       ap (λ (c : ℤ). added c (best_from g i t)) (raised_on i e) ∙ sym (added_twice (lowered (length s) (most i)) (g.credit i) (best_from g i t))
-      ∙ sym (best_added (here i) (cell best from) 61 (arrives i) u.0 u.1 (length s) (added (g.credit i) (best_from g i t)))
+      ∙ sym (best_added (here i) (most_at row.cells) 61 (arrives i) u.0 u.1 (length s) (added (g.credit i) (best_from g i t)))
 
-  pub row_on : Row g (s ++ (b ∷ [])) to r counts' best'
+  pub row_on : After g (s ++ (b ∷ [])) row'
   row_on = record {
     counted = λ t.
-        sum_cut (2 ^ 63) (has_bit r) (λ i. cell counts' to i * count_from g i t) (λ i. sum_if (here i) (λ u. cell counts from u * (g.links u i * count_from g i t)) 61) 61
+        sum_cut (2 ^ 63) (has_bit row'.active) (λ i. count_at row'.cells i * count_from g i t) (λ i. sum_if (here i) (λ u. count_at row.cells u * (g.links u i * count_from g i t)) 61) 61
         (λ i e.
-        sum_times (2 ^ 63) (here i) (weighted linked more i (cell counts from)) 61 (cell counts' to i) (count_from g i t) (st.counted.made i e)
+        sum_times (2 ^ 63) (here i) (weighted tables.more i (count_at row.cells)) 61 (count_at row'.cells i) (count_from g i t) (st.counted i e)
         ∙ ap (λ (x : ℕ). min x (2 ^ 63))
-        (fold_same 0 ◌+◌ (here i) (here i) (λ u. weighted linked more i (cell counts from) u * count_from g i t) (λ u. cell counts from u * (g.links u i * count_from g i t)) 61 (λ u l. refl)
+        (fold_same 0 ◌+◌ (here i) (here i) (λ u. weighted tables.more i (count_at row.cells) u * count_from g i t) (λ u. count_at row.cells u * (g.links u i * count_from g i t)) 61 (λ u l. refl)
         (λ u l. by_weights i u (count_from g i t))))
         ∙ ap (λ (x : ℕ). min x (2 ^ 63))
-        (sym (onward g bounded b before active holds r follows held st.states 0 ◌+◌ add-zero add_comm add_assoc (λ u x. cell counts from u * x)
-        (λ u. mul-zero (cell counts from u)) (λ u. mul-add (cell counts from u)) (λ u i. g.links u i * count_from g i t)))
-        ∙ row.counted (b ∷ t) ∙ ap (λ (x : List ℕ). min (readings g x) (2 ^ 63)) (sym (append_assoc s (b ∷ []) t));
+        (sym (onward g bounded b tables.before.now row.active holds row'.active follows held st.states 0 ◌+◌ add-zero add_comm add_assoc (λ u x. count_at row.cells u * x)
+        (λ u. mul-zero (count_at row.cells u)) (λ u. mul-add (count_at row.cells u)) (λ u i. g.links u i * count_from g i t)))
+        ∙ after.counted (b ∷ t) ∙ ap (λ (x : List ℕ). min (readings g x) (2 ^ 63)) (sym (append_assoc s (b ∷ []) t));
     marked = λ t.
-        fold_same no_reading better (has_bit r) (has_bit r) (λ i. added (lowered (length (s ++ (b ∷ []))) (cell best' to i)) (best_from g i t))
-        (λ i. best_of (arriving before active i) (λ u. added (lowered (length s) (cell best from u)) (added (g.credit i) (best_from g i t)))) 61 (λ i l. refl) (λ i l. gathered t i)
-        ∙ sym (onward g bounded b before active holds r follows held st.states no_reading better better_none better_comm better_assoc (λ u x. added (lowered (length s) (cell best from u)) x) (λ u. refl)
-        (λ u. added_better (lowered (length s) (cell best from u))) (λ u i. added (g.credit i) (best_from g i t)))
-        ∙ row.marked (b ∷ t) ∙ ap (best_from g 0) (sym (append_assoc s (b ∷ []) t));
+        fold_same no_reading better (has_bit row'.active) (has_bit row'.active) (λ i. added (lowered (length (s ++ (b ∷ []))) (most_at row'.cells i)) (best_from g i t))
+        (λ i. best_of (arriving_at i) (λ u. added (lowered (length s) (most_at row.cells u)) (added (g.credit i) (best_from g i t)))) 61 (λ i l. refl) (λ i l. gathered t i)
+        ∙ sym (onward g bounded b tables.before.now row.active holds row'.active follows held st.states no_reading better better_none better_comm better_assoc (λ u x. added (lowered (length s) (most_at row.cells u)) x) (λ u. refl)
+        (λ u. added_better (lowered (length s) (most_at row.cells u))) (λ u i. added (g.credit i) (best_from g i t)))
+        ∙ after.marked (b ∷ t) ∙ ap (best_from g 0) (sym (append_assoc s (b ∷ []) t));
     low = λ i e.
         let c = own_low i in
         let m = most_low i in
         omega (arith, best_here i e, length-append s (b ∷ []));
     reached = λ t v.
-        fold_same false ◌||◌ (has_bit r) (has_bit r) (λ i. leads g i t v) (λ i. any_if (here i) (λ u. leads g i t v) 61) 61 (λ i l. refl)
+        fold_same false ◌||◌ (has_bit row'.active) (has_bit row'.active) (λ i. leads g i t v) (λ i. any_if (here i) (λ u. leads g i t v) 61) 61 (λ i l. refl)
         (λ i l e. let u = some_arrives i e in sym (any_same (here i) (leads g i t v) 61 (arrives i) u.0 u.1))
-        ∙ sym (onward g bounded b before active holds r follows held st.states false ◌||◌ or-false or_comm or_assoc (λ u x. x) (λ u. refl) (λ u x y. refl) (λ u i. leads g i t v))
-        ∙ row.reached (b ∷ t) v ∙ ap (λ (x : List ℕ). possible g x v) (sym (append_assoc s (b ∷ []) t));
+        ∙ sym (onward g bounded b tables.before.now row.active holds row'.active follows held st.states false ◌||◌ or-false or_comm or_assoc (λ u x. x) (λ u. refl) (λ u x y. refl) (λ u i. leads g i t v))
+        ∙ after.reached (b ∷ t) v ∙ ap (λ (x : List ℕ). possible g x v) (sym (append_assoc s (b ∷ []) t));
   }
 
 -- where no state is possible, none will be
-pub row_stop : (g : Graph) (s t : List ℕ) (from active : ℕ) (counts best : List ℕ) → active ≡ 0 → Row g s from active counts best → Row g (s ++ t) from active counts best
-row_stop g s t from active counts best z row = record {
-  counted = λ q. ap (λ (x : ℕ). min x (2 ^ 63)) (none 0 ◌+◌ (λ u. cell counts from u * count_from g u q) (λ u. cell counts from u * count_from g u (t ++ q)))
-      ∙ row.counted (t ++ q) ∙ ap (λ (x : List ℕ). min (readings g x) (2 ^ 63)) (sym (append_assoc s t q));
-  marked = λ q. none no_reading better (λ u. added (lowered (length (s ++ t)) (cell best from u)) (best_from g u q)) (λ u. added (lowered (length s) (cell best from u)) (best_from g u (t ++ q)))
-      ∙ row.marked (t ++ q) ∙ ap (best_from g 0) (sym (append_assoc s t q));
+pub row_stop : (g : Graph) (s t : List ℕ) (row : Row) → row.active ≡ 0 → After g s row → After g (s ++ t) row
+row_stop g s t row z after = record {
+  counted = λ q. ap (λ (x : ℕ). min x (2 ^ 63)) (none 0 ◌+◌ (λ u. count_at row.cells u * count_from g u q) (λ u. count_at row.cells u * count_from g u (t ++ q)))
+      ∙ after.counted (t ++ q) ∙ ap (λ (x : List ℕ). min (readings g x) (2 ^ 63)) (sym (append_assoc s t q));
+  marked = λ q. none no_reading better (λ u. added (lowered (length (s ++ t)) (most_at row.cells u)) (best_from g u q)) (λ u. added (lowered (length s) (most_at row.cells u)) (best_from g u (t ++ q)))
+      ∙ after.marked (t ++ q) ∙ ap (best_from g 0) (sym (append_assoc s t q));
   low = λ u e. absurd (true≢false (sym e ∙ ap (λ (m : ℕ). has_bit m u) z ∙ has_none u));
-  reached = λ q v. none false ◌||◌ (λ u. leads g u q v) (λ u. leads g u (t ++ q) v) ∙ row.reached (t ++ q) v ∙ ap (λ (x : List ℕ). possible g x v) (sym (append_assoc s t q));
+  reached = λ q v. none false ◌||◌ (λ u. leads g u q v) (λ u. leads g u (t ++ q) v) ∙ after.reached (t ++ q) v ∙ ap (λ (x : List ℕ). possible g x v) (sym (append_assoc s t q));
 }
   where
-    none : {A : Type 0} (n : A) (join : A → A → A) (f h : ℕ → A) → fold_if n join (has_bit active) f 61 ≡ fold_if n join (has_bit active) h 61
-    none n join f h = walk_end n join f 61 active (no_members active z) ∙ sym (walk_end n join h 61 active (no_members active z))
+    none : {A : Type 0} (n : A) (join : A → A → A) (f h : ℕ → A) → fold_if n join (has_bit row.active) f 61 ≡ fold_if n join (has_bit row.active) h 61
+    none n join f h = walk_end n join f 61 row.active (no_members row.active z) ∙ sym (walk_end n join h 61 row.active (no_members row.active z))
 
 -- the set of a row has the states that are possible
-module _ (g : Graph) (s : List ℕ) (from active : ℕ) (counts best : List ℕ) (small : active < 2 ^ 61) (row : Row g s from active counts best) where
-  row_possible : (v : ℕ) → has_bit active v ≡ possible g s v
+module _ (g : Graph) (s : List ℕ) (row : Row) (after : After g s row) where
+  row_possible : (v : ℕ) → has_bit row.active v ≡ possible g s v
   row_possible v =
-      sym (any_one (has_bit active) (λ u. true) 61 v (member_below 61 active v small) ∙ and-true (has_bit active v)) ∙ row.reached [] v ∙ ap (λ (x : List ℕ). possible g x v) (append-nil s)
+      sym (any_one (has_bit row.active) (λ u. true) 61 v (member_below 61 row.active v row.states) ∙ and-true (has_bit row.active v)) ∙ after.reached [] v ∙ ap (λ (x : List ℕ). possible g x v) (append-nil s)
 
-  pub row_dead : dead g s ≡ eqb active 0
+  pub row_dead : dead g s ≡ eqb row.active 0
   row_dead =
       ⊎_elim
       (λ l.
-      let z : active ≡ 0 = omega arith in
-      ap not (fold_none false ◌||◌ (possible g s) (λ v. true) (suc g.positions) (λ v _. sym (row_possible v) ∙ ap (λ (m : ℕ). has_bit m v) z ∙ has_none v)) ∙ sym (eq-eqb active 0 z))
+      let z : row.active ≡ 0 = omega arith in
+      ap not (fold_none false ◌||◌ (possible g s) (λ v. true) (suc g.positions) (λ v _. sym (row_possible v) ∙ ap (λ (m : ℕ). has_bit m v) z ∙ has_none v)) ∙ sym (eq-eqb row.active 0 z))
       (λ l.
-      let u = least_trailing 61 active l small in
-      possible_live g s (count_trailing_zeros 61 active) (sym (row_possible (count_trailing_zeros 61 active)) ∙ u.1.here) ∙ sym (ne_eqb active 0 (λ z. omega arith)))
-      (le_or_lt active 0)
+      let u = least_trailing 61 row.active l row.states in
+      possible_live g s (count_trailing_zeros 61 row.active) (sym (row_possible (count_trailing_zeros 61 row.active)) ∙ u.1.here) ∙ sym (ne_eqb row.active 0 (λ z. omega arith)))
+      (le_or_lt row.active 0)
 
 -- at the end the possible states at which a reading may end are counted
-module _ (g : Graph) (s : List ℕ) (from active lasts : ℕ) (counts best : List ℕ) (last : (u : ℕ) → g.last u ≡ has_bit lasts u) (small : active < 2 ^ 61) (row : Row g s from active counts best) where
+module _ (g : Graph) (s : List ℕ) (lasts : ℕ) (row : Row) (last : (u : ℕ) → g.last u ≡ has_bit lasts u) (after : After g s row) where
   abbrev ending : ℕ
-  ending = bit_and active lasts
+  ending = bit_and row.active lasts
 
   abbrev count : ℕ
-  count = count_of ending (cell counts from)
+  count = count_of ending (count_at row.cells)
 
   abbrev greatest : ℕ
-  greatest = most_of ending (cell best from)
+  greatest = most_of ending (most_at row.cells)
 
-  both : (u : ℕ) → has_bit ending u ≡ (has_bit active u && g.last u)
-  both u = has_and active lasts u ∙ ap (λ (x : Bool). has_bit active u && x) (sym (last u))
+  both : (u : ℕ) → has_bit ending u ≡ (has_bit row.active u && g.last u)
+  both u = has_and row.active lasts u ∙ ap (λ (x : Bool). has_bit row.active u && x) (sym (last u))
 
-  both_parts : (u : ℕ) → has_bit ending u ≡ true → (has_bit active u ≡ true) × (g.last u ≡ true)
-  both_parts u e = and_parts (has_bit active u) (g.last u) (sym (both u) ∙ e)
+  both_parts : (u : ℕ) → has_bit ending u ≡ true → (has_bit row.active u ≡ true) × (g.last u ≡ true)
+  both_parts u e = and_parts (has_bit row.active u) (g.last u) (sym (both u) ∙ e)
 
   -- for both folds: where a reading may not end there is nothing to join
   at_end : {A : Type 0} (none : A) (join : A → A → A) → ((a : A) → join a none ≡ a) → (act : ℕ → A → A) → ((u : ℕ) → act u none ≡ none) → (here : A)
-      → fold_if none join (has_bit active) (λ u. act u (if g.last u then here else none)) 61 ≡ fold_if none join (has_bit ending) (λ u. act u here) 61
+      → fold_if none join (has_bit row.active) (λ u. act u (if g.last u then here else none)) 61 ≡ fold_if none join (has_bit ending) (λ u. act u here) 61
   at_end none join right act z here =
-      fold_where none join right (has_bit active) g.last (has_bit ending) (λ u. act u (if g.last u then here else none)) (λ u. act u here) both
+      fold_where none join right (has_bit row.active) g.last (has_bit ending) (λ u. act u (if g.last u then here else none)) (λ u. act u here) both
       (λ u e. ap (act u) (if_yes here none (g.last u) (both_parts u e).1)) (λ u e. ap (act u) (if_no here none (g.last u) e) ∙ z u) 61
 
   counted_end : count ≡ min (readings g s) (2 ^ 63)
   counted_end =
       ap (λ (x : ℕ). min x (2 ^ 63))
-      (fold_same 0 ◌+◌ (has_bit ending) (has_bit ending) (cell counts from) (λ u. cell counts from u * 1) 61 (λ u l. refl) (λ u l e. sym (mul-one (cell counts from u)))
-      ∙ sym (at_end 0 ◌+◌ add-zero (λ u x. cell counts from u * x) (λ u. mul-zero (cell counts from u)) 1))
-      ∙ row.counted [] ∙ ap (λ (x : List ℕ). min (readings g x) (2 ^ 63)) (append-nil s)
+      (fold_same 0 ◌+◌ (has_bit ending) (has_bit ending) (count_at row.cells) (λ u. count_at row.cells u * 1) 61 (λ u l. refl) (λ u l e. sym (mul-one (count_at row.cells u)))
+      ∙ sym (at_end 0 ◌+◌ add-zero (λ u x. count_at row.cells u * x) (λ u. mul-zero (count_at row.cells u)) 1))
+      ∙ after.counted [] ∙ ap (λ (x : List ℕ). min (readings g x) (2 ^ 63)) (append-nil s)
 
   best_end : 0 < ending → best_from g 0 s ≡ earns (lowered (length s) greatest)
   best_end some =
-      let u = least_trailing 61 ending some (lt_of_le_of_lt (and_le_l active lasts) small) in
-      sym (row.marked [] ∙ ap (best_from g 0) (append-nil s))
-      ∙ at_end no_reading better better_none (λ u x. added (lowered (length s) (cell best from u)) x) (λ u. refl) (earns (pos 0))
-      ∙ best_added (has_bit ending) (cell best from) 61 (count_trailing_zeros 61 ending) u.0 u.1.here (length s) (earns (pos 0))
+      let u = least_trailing 61 ending some (lt_of_le_of_lt (and_le_l row.active lasts) row.states) in
+      sym (after.marked [] ∙ ap (best_from g 0) (append-nil s))
+      ∙ at_end no_reading better better_none (λ u x. added (lowered (length s) (most_at row.cells u)) x) (λ u. refl) (earns (pos 0))
+      ∙ best_added (has_bit ending) (most_at row.cells) 61 (count_trailing_zeros 61 ending) u.0 u.1.here (length s) (earns (pos 0))
       ∙ ap earns (+ℤ_idr (lowered (length s) greatest))
 
   -- a count that is not 0 has a state that is counted
   some_end : (count ≡ 0 → ⊥) → 0 < ending
-  some_end d = ⊎_elim (λ l. let z : ending ≡ 0 = omega arith in absurd (d (ap (λ (x : ℕ). min x (2 ^ 63)) (walk_end 0 ◌+◌ (cell counts from) 61 ending (no_members ending z))))) (λ l. l) (le_or_lt ending 0)
+  some_end d = ⊎_elim (λ l. let z : ending ≡ 0 = omega arith in absurd (d (ap (λ (x : ℕ). min x (2 ^ 63)) (walk_end 0 ◌+◌ (count_at row.cells) 61 ending (no_members ending z))))) (λ l. l) (le_or_lt ending 0)
 
   greatest_low : greatest ≤ 18 * length s
-  greatest_low = sums_low g s from active counts best row ending (λ u e. (both_parts u e).0)
+  greatest_low = sums_low g s row after ending (λ u e. (both_parts u e).0)
 
   pub row_end : Summed g s count greatest
   row_end = record {

@@ -8,7 +8,7 @@ ghost use Rattle.graph.specs.Built.{graph_of_built};
 ghost use Rattle.graph.specs.Taken.{letters_taken};
 ghost use Rattle.marks.specs.Answers.{mark_of_sum, Answered, TablesSummed};
 
-use frontier::Sum;
+use frontier::{Cell, Links, Row};
 use graph::Built;
 
 // What marking gives: the number of readings, 2^63 where it is that or more, the most credit that one earns, which may be below
@@ -22,38 +22,27 @@ pub struct Marked {
 
 // The number of readings of an answer, its mark and the letters taken. A byte that is no letter is held by no position. `more` is the
 // table of the links beyond the first; it is read only where `b.doubled` says that there is one.
-pub fn mark(b: Built, more: &[u8], answer: &[u8]) -> Marked
-    requires { Bounded (graph_of_built b more.now) × (b.doubled ≡ false → SingleLinks (graph_of_built b more.now)) × (length more.now ≡ 3721) × (length answer.now ≤ 4096) }
+pub fn mark(b: Built, more: &[u8; 3721], answer: &[u8]) -> Marked
+    requires { Bounded (graph_of_built b more.now) × (b.doubled ≡ false → SingleLinks (graph_of_built b more.now)) × (length answer.now ≤ 4096) }
     ensures { Answered (graph_of_built b more.now) answer.now result.count result.mark × (result.taken ≡ letters_taken (graph_of_built b more.now) answer.now) }
 {
     let before = columns::states_before(&b.follow, b.positions);
     let holders = columns::holders_of(&b.letters, b.positions);
-    let credits = b.credits;
-    let mut counts = [0u64; 122];
-    let mut best = [0u32; 122];
-    let end = run(
-        &mut counts,
-        &mut best,
-        answer,
-        &holders,
-        &before,
-        b.lasts,
-        &credits,
-        b.doubled,
-        more,
-    );
-    let sum = end.sum;
-    let mark = mark_of_sum(sum, answer.len());
-    let taken = end.taken as u32;
+    let links = Links {
+        before: &before,
+        credits: &b.credits,
+        more: if b.doubled { Some(more) } else { None },
+    };
+    let end = run(answer, &holders, &links, b.lasts);
     Marked {
-        count: sum.count,
-        mark: mark,
-        taken: taken,
+        count: end.sum.count,
+        mark: mark_of_sum(end.sum, answer.len()),
+        taken: end.taken as u32,
     }
 }
 
 // The mark of a greatest sum of as many credits as there are letters, each raised by 9; 0 where there is no reading.
-fn mark_of_sum(sum: Sum, letters: usize) -> i32
+fn mark_of_sum(sum: Cell, letters: usize) -> i32
     requires { (sum.most ≤ 18 * letters) × (letters ≤ 4096) }
     ensures { result ≡ mark_of_sum sum.count sum.most letters }
 {
@@ -66,41 +55,30 @@ fn mark_of_sum(sum: Sum, letters: usize) -> i32
 // What the rows come to, and after how many letters.
 #[derive(Clone, Copy)]
 struct End {
-    sum: Sum,
+    sum: Cell,
     taken: usize,
 }
 
-// The answer, letter by letter, until no state is possible. The rows are at 0 and at 61, in turn.
-fn run(
-    counts: &mut [u64],
-    best: &mut [u32],
-    answer: &[u8],
-    holders: &[u64; 256],
-    before: &[u64; 61],
-    lasts: u64,
-    credits: &[u8; 61],
-    linked: bool,
-    more: &[u8],
-) -> End
-    requires { (122 ≤ length counts.old) × (122 ≤ length best.old) × (length answer.now ≤ 4096) × ((b : ℕ) → get_or holders.now b 0 < 2 ^ 61) × (length credits.now ≡ 61) × (3721 ≤ length more.now) }
-    ensures { TablesSummed holders.now before.now lasts credits.now linked more.now answer.now result.sum.count result.sum.most result.taken }
+// The answer, letter by letter, until no state is possible. The two rows are used in turn.
+fn run(answer: &[u8], holders: &[u64; 256], links: &Links, lasts: u64) -> End
+    requires { (length answer.now ≤ 4096) × ((b : ℕ) → get_or holders.now b 0 < 2 ^ 61) × (length links.now.credits.now ≡ 61) }
+    ensures { TablesSummed holders.now links.now lasts answer.now result.sum.count result.sum.most result.taken }
 {
-    counts[0] = 1;
-    best[0] = 0;
-    let mut active: u64 = 1;
-    let mut from: usize = 0;
-    let mut k: usize = 0;
-    while k < answer.len() && active != 0 {
-        let to = 61 - from;
-        let holds = holders[answer[k] as usize];
-        active = frontier::step(
-            counts, best, from, to, active, holds, before, credits, linked, more,
-        );
-        from = to;
-        k += 1;
+    let mut even = Row::start();
+    let mut odd = Row::start();
+    let mut row = &mut even;
+    let mut next = &mut odd;
+    let mut taken = 0;
+    for &letter in answer {
+        if row.active == 0 {
+            break;
+        }
+        row.step(next, holders[letter as usize], links);
+        std::mem::swap(&mut row, &mut next);
+        taken += 1;
     }
     End {
-        sum: frontier::gather(counts, best, from, active & lasts),
-        taken: k,
+        sum: row.total(lasts),
+        taken,
     }
 }
