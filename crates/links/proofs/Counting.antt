@@ -12,13 +12,12 @@ use lib.ListN.{length, get_or, set, replicate}
 use lib.Seq.{get_or-set_same, get_or-set_other}
 use borrow.Author.Tests.{ltb-true, lt-ltb, le-ltb, eq-eqb, ne_eqb}
 use Rattle.std.specs.Prelude.{if◌then◌else◌}
-use Rattle.basics.specs.Folds.{Less}
 use Rattle.basics.proofs.Tests.{by_equal, le_or_lt, if_yes, if_no, if_either}
 use Rattle.basics.proofs.Lists.{zeros}
 use Rattle.basics.proofs.Folds.{less_here, less_other}
-use Rattle.bits.specs.Bits.{has_bit, Least}
+use Rattle.bits.specs.Bits.{has_bit, Taken}
 use Rattle.bits.proofs.Laws.{has_none}
-use Rattle.links.specs.Rows.{kept, Marks, Adds, Linked, entry, number, one_more, after, further, Counts, NoneCounted, Room, Further}
+use Rattle.links.specs.Rows.{kept, Marks, Adds, Linked, entry, number, one_more, after, further, Counts, NoneCounted, Further}
 use Rattle.links.proofs.Linking.{adds_both, adds_linked}
 
 -- ---- one more, and k more
@@ -31,16 +30,6 @@ after_plus j (suc k) n = ap (λ (i : ℕ). after i n) (add-suc j k) ∙ ap one_m
 pub after_few : (k : ℕ) → k ≤ 256 → after k 0 ≡ k
 after_few zero h = refl
 after_few (suc k) h = ap one_more (after_few k (omega arith)) ∙ if_yes (suc k) k (ltb k 256) (lt-ltb k 256 (omega arith))
-
-further_yes : (n : ℕ) → n < 255 → further n ≡ n + 1
-further_yes n h = if_yes (n + 1) n (ltb n 255) (lt-ltb n 255 h)
-
-further_no : (n : ℕ) → 255 ≤ n → further n ≡ n
-further_no n h = if_no (n + 1) n (ltb n 255) (le-ltb n 255 h)
-
--- one more is still a byte
-pub further_fits : (n : ℕ) → n < 256 → further n < 256
-further_fits n h = ⊎_elim (λ k. omega (arith, further_no n k)) (λ k. omega (arith, further_yes n k)) (le_or_lt 255 n)
 
 more_yes : (n : ℕ) → n < 256 → one_more n ≡ suc n
 more_yes n h = if_yes (suc n) n (ltb n 256) (lt-ltb n 256 h)
@@ -110,30 +99,30 @@ counts_alone j rows more more' g e c a b x y = c a b x y ∙ ap (after (g a b)) 
 abbrev pub to_further : List ℕ → ℕ → ℕ → ℕ → ℕ → ℕ
 to_further more a left x y = if eqb a x && has_bit left y then further (get_or more (entry x y) 0) else get_or more (entry x y) 0
 
-pub further_turn : (more : List ℕ) (a left t others v : ℕ) → Room more → a < 61 → t < 61 → Least left t → Less (has_bit left) t (has_bit others) → v ≡ further (get_or more (entry a t) 0)
+pub further_turn : (more : List ℕ) (a left t others v : ℕ) → length more ≡ 3721 → a < 61 → t < 61 → Taken has_bit (λ (m : ℕ). m) left t others → v ≡ further (get_or more (entry a t) 0)
     → (x y : ℕ) → kept y ≡ true → to_further (set more (entry a t) v) a others x y ≡ to_further more a left x y
-further_turn more a left t others v size small low l e is x y k =
+further_turn more a left t others v size small low s is x y k =
     let within : y < 61 = ltb-true y 61 k in
     by_equal a x
     (λ z.
     by_equal y t
     (λ w. subst (λ (i : ℕ). to_further (set more (entry a t) v) a others i y ≡ to_further more a left i y) z
     (subst (λ (j : ℕ). to_further (set more (entry a t) v) a others a j ≡ to_further more a left a j) (sym w) here))
-    (λ d. other x y (λ q. d (omega arith)) (ap (λ (u : Bool). eqb a x && u) (less_other (has_bit left) (has_bit others) t e y (λ q. d (sym q))))))
+    (λ d. other x y (λ q. d (omega arith)) (ap (λ (u : Bool). eqb a x && u) (less_other (has_bit left) (has_bit others) t s.others y (λ q. d (sym q))))))
     (λ d. other x y (λ q. d (omega arith)) (ap (λ (u : Bool). u && has_bit others y) (ne_eqb a x d) ∙ sym (ap (λ (u : Bool). u && has_bit left y) (ne_eqb a x d))))
   where
     here : to_further (set more (entry a t) v) a others a t ≡ to_further more a left a t
     here =
-        ap₂ (λ (u : Bool) (n : ℕ). if eqb a a && u then further n else n) (less_here (has_bit left) (has_bit others) t e) (get_or-set_same more (entry a t) v 0 (omega arith) ∙ is)
+        ap₂ (λ (u : Bool) (n : ℕ). if eqb a a && u then further n else n) (less_here (has_bit left) (has_bit others) t s.others) (get_or-set_same more (entry a t) v 0 (omega arith) ∙ is)
         ∙ ap (λ (u : Bool). if u && false then further (further (get_or more (entry a t) 0)) else further (get_or more (entry a t) 0)) (eq-eqb a a refl)
-        ∙ sym (ap₂ (λ (u w : Bool). if u && w then further (get_or more (entry a t) 0) else get_or more (entry a t) 0) (eq-eqb a a refl) l.here)
+        ∙ sym (ap₂ (λ (u w : Bool). if u && w then further (get_or more (entry a t) 0) else get_or more (entry a t) 0) (eq-eqb a a refl) s.least.here)
 
     other : (x y : ℕ) → (entry x y ≡ entry a t → ⊥) → (eqb a x && has_bit others y) ≡ (eqb a x && has_bit left y) → to_further (set more (entry a t) v) a others x y ≡ to_further more a left x y
-    other x y d s = ap₂ (λ (u : Bool) (n : ℕ). if u then further n else n) s (get_or-set_other more (entry a t) (entry x y) v 0 d)
+    other x y d e = ap₂ (λ (u : Bool) (n : ℕ). if u then further n else n) e (get_or-set_other more (entry a t) (entry x y) v 0 d)
 
-pub further_end : (more : List ℕ) (a left : ℕ) → left ≡ 0 → (x y : ℕ) → get_or more (entry x y) 0 ≡ to_further more a left x y
+pub further_end : (more : List ℕ) (a left : ℕ) → ((y : ℕ) → has_bit left y ≡ false) → (x y : ℕ) → get_or more (entry x y) 0 ≡ to_further more a left x y
 further_end more a left z x y =
-    sym (if_no (further (get_or more (entry x y) 0)) (get_or more (entry x y) 0) (eqb a x && has_bit left y) (none (eqb a x) (has_bit left y) (ap (λ (n : ℕ). has_bit n y) z ∙ has_none y)))
+    sym (if_no (further (get_or more (entry x y) 0)) (get_or more (entry x y) 0) (eqb a x && has_bit left y) (none (eqb a x) (has_bit left y) (z y)))
   where
     none : (u w : Bool) → w ≡ false → (u && w) ≡ false
     none true w e = e
@@ -143,7 +132,7 @@ further_end more a left z x y =
 pub further_small : (more more' : List ℕ) (a set : ℕ) → Further more a set more' → ((x y : ℕ) → kept y ≡ true → get_or more (entry x y) 0 < 256) → (x y : ℕ) → kept y ≡ true → get_or more' (entry x y) 0 < 256
 further_small more more' a set w small x y k =
     subst (λ (n : ℕ). n < 256) (sym (w.counts x y k))
-    (if_either (λ (n : ℕ). n < 256) (further (get_or more (entry x y) 0)) (get_or more (entry x y) 0) (eqb a x && has_bit set y) (λ e. further_fits (get_or more (entry x y) 0) (small x y k)) (λ e. small x y k))
+    (if_either (λ (n : ℕ). n < 256) (further (get_or more (entry x y) 0)) (get_or more (entry x y) 0) (eqb a x && has_bit set y) (λ e. omega arith) (λ e. small x y k))
 
 -- ---- one link more from one of the lasts at a time
 
@@ -153,20 +142,19 @@ to_count rows more left firsts a b = after (if has_bit left a && has_bit firsts 
 
 -- a first link is in the rows, and another one is counted
 one_link : (r f : Bool) (n : ℕ) → n < 256 → (if r || f then 1 else 0) + (if r && f then further n else n) ≡ after (if f then 1 else 0) ((if r then 1 else 0) + n)
-one_link true true n h =
-    ⊎_elim (λ k. omega (arith, further_no n k, more_no (1 + n) (omega arith))) (λ k. omega (arith, further_yes n k, more_yes (1 + n) (omega arith))) (le_or_lt 255 n)
+one_link true true n h = ⊎_elim (λ k. omega (arith, more_no (1 + n) (omega arith))) (λ k. omega (arith, more_yes (1 + n) (omega arith))) (le_or_lt 255 n)
 one_link true false n h = refl
 one_link false true n h = omega (arith, more_yes (0 + n) (omega arith))
 one_link false false n h = refl
 
-pub count_turn : (rows more more' : List ℕ) (left firsts t row old others : ℕ) → t < length rows → Least left t → Less (has_bit left) t (has_bit others)
-    → ((j : ℕ) → has_bit row j ≡ (has_bit (get_or rows t 0) j || has_bit firsts j)) → ((j : ℕ) → kept j ≡ true → has_bit old j ≡ (has_bit (get_or rows t 0) j && has_bit firsts j))
+pub count_turn : (rows more more' : List ℕ) (left firsts t row old others : ℕ) → t < length rows → Taken has_bit (λ (m : ℕ). m) left t others
+    → ((j : ℕ) → has_bit row j ≡ (has_bit (get_or rows t 0) j || has_bit firsts j)) → Marks old (λ j. has_bit (get_or rows t 0) j && has_bit firsts j)
     → Further more t old more' → ((x y : ℕ) → kept y ≡ true → get_or more (entry x y) 0 < 256)
     → (a b : ℕ) → kept b ≡ true → to_count (set rows t row) more' others firsts a b ≡ to_count rows more left firsts a b
-count_turn rows more more' left firsts t row old others h l e j o w small a b k =
+count_turn rows more more' left firsts t row old others h s j o w small a b k =
     by_equal a t (λ z. subst (λ (x : ℕ). to_count (set rows t row) more' others firsts x b ≡ to_count rows more left firsts x b) (sym z) here)
     (λ d.
-    ap₂ (λ (u : Bool) (n : ℕ). after (if u && has_bit firsts b then 1 else 0) n) (less_other (has_bit left) (has_bit others) t e a (λ z. d (sym z)))
+    ap₂ (λ (u : Bool) (n : ℕ). after (if u && has_bit firsts b then 1 else 0) n) (less_other (has_bit left) (has_bit others) t s.others a (λ z. d (sym z)))
     (ap₂ (λ (x : ℕ) (n : ℕ). (if has_bit x b then 1 else 0) + n) (get_or-set_other rows t a row 0 d)
     (w.counts a b k ∙ ap (λ (u : Bool). if u && has_bit old b then further (get_or more (entry a b) 0) else get_or more (entry a b) 0) (ne_eqb t a (λ z. d (sym z))))))
   where
@@ -178,11 +166,11 @@ count_turn rows more more' left firsts t row old others h l e j o w small a b k 
 
     here : to_count (set rows t row) more' others firsts t b ≡ to_count rows more left firsts t b
     here =
-        ap₂ (λ (u : Bool) (n : ℕ). after (if u && f then 1 else 0) n) (less_here (has_bit left) (has_bit others) t e)
+        ap₂ (λ (u : Bool) (n : ℕ). after (if u && f then 1 else 0) n) (less_here (has_bit left) (has_bit others) t s.others)
         (ap₂ (λ (u : Bool) (n : ℕ). (if u then 1 else 0) + n) (ap (λ (x : ℕ). has_bit x b) (get_or-set_same rows t row 0 h) ∙ j b)
-        (w.counts t b k ∙ ap₂ (λ (u v : Bool). if u && v then further (get_or more (entry t b) 0) else get_or more (entry t b) 0) (eq-eqb t t refl) (o b k)))
+        (w.counts t b k ∙ ap₂ (λ (u v : Bool). if u && v then further (get_or more (entry t b) 0) else get_or more (entry t b) 0) (eq-eqb t t refl) (o b ∙ ap (λ (u : Bool). u && (r && f)) k)))
         ∙ one_link r f (get_or more (entry t b) 0) (small t b k)
-        ∙ sym (ap (λ (u : Bool). after (if u && f then 1 else 0) (number rows more t b)) l.here)
+        ∙ sym (ap (λ (u : Bool). after (if u && f then 1 else 0) (number rows more t b)) s.least.here)
 
-pub count_end : (rows more : List ℕ) (left firsts : ℕ) → left ≡ 0 → (a b : ℕ) → number rows more a b ≡ to_count rows more left firsts a b
-count_end rows more left firsts z a b = sym (ap (λ (u : Bool). after (if u && has_bit firsts b then 1 else 0) (number rows more a b)) (ap (λ (x : ℕ). has_bit x a) z ∙ has_none a))
+pub count_end : (rows more : List ℕ) (left firsts : ℕ) → ((a : ℕ) → has_bit left a ≡ false) → (a b : ℕ) → number rows more a b ≡ to_count rows more left firsts a b
+count_end rows more left firsts z a b = sym (ap (λ (u : Bool). after (if u && has_bit firsts b then 1 else 0) (number rows more a b)) (z a))

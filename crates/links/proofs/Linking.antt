@@ -2,15 +2,15 @@
 use mathlib.Core.Path.{◌≡◌, refl, sym, ap, ap₂, ◌∙◌, subst}
 use mathlib.Core.Bool.{Bool, true, false, ◌&&◌, ◌||◌, and-false, or-false, or_assoc}
 use mathlib.Core.List.{List}
-use Prim.Native.Nat.{ℕ, ◌<◌}
+use Prim.Native.Nat.{ℕ, ◌<◌, ◌^◌}
 use lib.ListN.{length, get_or, set, replicate}
 use lib.Seq.{get_or-set_same, get_or-set_other}
-use Rattle.basics.specs.Folds.{Less}
+use borrow.Author.Tests.{le-ltb}
 use Rattle.basics.proofs.Tests.{by_equal}
 use Rattle.basics.proofs.Lists.{zeros}
 use Rattle.basics.proofs.Folds.{less_here, less_other}
-use Rattle.bits.specs.Bits.{has_bit, Least}
-use Rattle.bits.proofs.Laws.{has_none}
+use Rattle.bits.specs.Bits.{has_bit, Taken}
+use Rattle.bits.proofs.Laws.{has_none, lt_of_high, member_below}
 use Rattle.links.specs.Rows.{kept, Marks, Links, Adds, Linked}
 
 -- ---- sets and rows
@@ -55,21 +55,39 @@ adds_linked rows r lasts firsts f g l p q a b =
 abbrev pub to_come : List ℕ → ℕ → ℕ → ℕ → ℕ → Bool
 to_come rows left firsts a b = has_bit (get_or rows a 0) b || (has_bit left a && has_bit firsts b)
 
+-- the set that a walk begins with: the kept numbers of m
+pub marks_kept : (all m n left : ℕ) → ((j : ℕ) → has_bit all j ≡ kept j) → ((j : ℕ) → has_bit n j ≡ (has_bit all j && has_bit m j)) → left ≡ n → Marks left (has_bit m)
+marks_kept all m n left e f s j = ap (λ (x : ℕ). has_bit x j) s ∙ f j ∙ ap (λ (t : Bool). t && has_bit m j) (e j)
+
+pub marks_few : (m : ℕ) (f : ℕ → Bool) → m < 2 ^ 64 → Marks m f → m < 2 ^ 61
+marks_few m f fits e = lt_of_high 61 m fits (λ j h. e j ∙ ap (λ (t : Bool). t && f j) (le-ltb j 61 h))
+
+with_row : (k r f : Bool) → (r && (k && f)) ≡ (k && (r && f))
+with_row true r f = refl
+with_row false r f = and-false r
+
+-- of those, the ones that a row has
+pub marks_row : (row all m ends n : ℕ) → ((j : ℕ) → has_bit all j ≡ kept j) → ((j : ℕ) → has_bit ends j ≡ (has_bit all j && has_bit m j)) → ((j : ℕ) → has_bit n j ≡ (has_bit row j && has_bit ends j)) → Marks n (λ j. has_bit row j && has_bit m j)
+marks_row row all m ends n e f h j = h j ∙ ap (λ (t : Bool). has_bit row j && t) (marks_kept all m ends ends e f refl j) ∙ with_row (kept j) (has_bit row j) (has_bit m j)
+
+-- a member has a row
+pub row_of : {left t others : ℕ} → left < 2 ^ 61 → Taken has_bit (λ (m : ℕ). m) left t others → t < 61
+row_of {left} {t} h s = member_below 61 left t h s.least.here
+
 -- a turn, at the least of them, changes nothing of it
-pub link_turn : (rows : List ℕ) (left firsts t row others : ℕ) → t < length rows → Least left t → Less (has_bit left) t (has_bit others)
+pub link_turn : (rows : List ℕ) (left firsts t row others : ℕ) → t < length rows → Taken has_bit (λ (m : ℕ). m) left t others
     → ((j : ℕ) → has_bit row j ≡ (has_bit (get_or rows t 0) j || has_bit firsts j)) → (a b : ℕ) → to_come (set rows t row) others firsts a b ≡ to_come rows left firsts a b
-link_turn rows left firsts t row others h l e j a b =
+link_turn rows left firsts t row others h s j a b =
     by_equal a t (λ z. subst (λ (x : ℕ). to_come (set rows t row) others firsts x b ≡ to_come rows left firsts x b) (sym z) here)
-    (λ d. ap₂ (λ (x : ℕ) (u : Bool). has_bit x b || (u && has_bit firsts b)) (get_or-set_other rows t a row 0 d) (less_other (has_bit left) (has_bit others) t e a (λ z. d (sym z))))
+    (λ d. ap₂ (λ (x : ℕ) (u : Bool). has_bit x b || (u && has_bit firsts b)) (get_or-set_other rows t a row 0 d) (less_other (has_bit left) (has_bit others) t s.others a (λ z. d (sym z))))
   where
     here : to_come (set rows t row) others firsts t b ≡ to_come rows left firsts t b
     here =
-        ap₂ (λ (x : ℕ) (u : Bool). has_bit x b || (u && has_bit firsts b)) (get_or-set_same rows t row 0 h) (less_here (has_bit left) (has_bit others) t e)
-        ∙ or-false (has_bit row b) ∙ j b ∙ ap (λ (u : Bool). has_bit (get_or rows t 0) b || (u && has_bit firsts b)) (sym l.here)
+        ap₂ (λ (x : ℕ) (u : Bool). has_bit x b || (u && has_bit firsts b)) (get_or-set_same rows t row 0 h) (less_here (has_bit left) (has_bit others) t s.others)
+        ∙ or-false (has_bit row b) ∙ j b ∙ ap (λ (u : Bool). has_bit (get_or rows t 0) b || (u && has_bit firsts b)) (sym s.least.here)
 
-pub link_end : (rows : List ℕ) (left firsts : ℕ) → left ≡ 0 → (a b : ℕ) → has_bit (get_or rows a 0) b ≡ to_come rows left firsts a b
-link_end rows left firsts z a b =
-    sym (ap (λ (u : Bool). has_bit (get_or rows a 0) b || (u && has_bit firsts b)) (ap (λ (x : ℕ). has_bit x a) z ∙ has_none a) ∙ or-false (has_bit (get_or rows a 0) b))
+pub link_end : (rows : List ℕ) (left firsts : ℕ) → ((a : ℕ) → has_bit left a ≡ false) → (a b : ℕ) → has_bit (get_or rows a 0) b ≡ to_come rows left firsts a b
+link_end rows left firsts z a b = sym (ap (λ (u : Bool). has_bit (get_or rows a 0) b || (u && has_bit firsts b)) (z a) ∙ or-false (has_bit (get_or rows a 0) b))
 
 -- ---- no rows before
 

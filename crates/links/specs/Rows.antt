@@ -1,6 +1,6 @@
 -- Sets and rows of positions, as the program holds them, and the numbers of links. Positions past 60 are counted and have no place
 -- in a set and no row, so each fact of sets and rows holds of every number; the numbers of links are those of kept pairs.
-use Rattle.std.specs.Prelude.{◌≡◌, Bool, true, false, ◌&&◌, ◌||◌, List, ℕ, zero, suc, ◌+◌, ◌*◌, ◌<◌, eqb, ltb, length, get_or, if◌then◌else◌}
+use Rattle.std.specs.Prelude.{◌≡◌, Bool, true, false, ◌&&◌, ◌||◌, List, ℕ, zero, suc, ◌+◌, ◌*◌, ◌<◌, min, eqb, ltb, get_or, if◌then◌else◌}
 use Rattle.bits.specs.Bits.{has_bit}
 
 -- has a number a place in a set, and a row
@@ -44,7 +44,7 @@ after (suc k) n = one_more (after k n)
 
 -- one more beyond the first, up to 255
 abbrev pub further : ℕ → ℕ
-further n = if ltb n 255 then n + 1 else n
+further n = min (n + 1) 255
 
 -- of each kept pair, as many links more as k says
 abbrev pub Counts : List ℕ → List ℕ → (ℕ → ℕ → ℕ) → List ℕ → List ℕ → Type 0
@@ -59,20 +59,13 @@ pub record Clear (n : ℕ) (rows more : List ℕ) : Type 0 where
   pub unlinked : (a b : ℕ) → n < a → has_bit (get_or rows a 0) b ≡ false
   pub none : (a b : ℕ) → kept a ≡ true → kept b ≡ true → n < a → number rows more a b ≡ 0
 
--- the table has room for every pair
-abbrev pub Room : List ℕ → Type 0
-Room more = length more ≡ 3721
-
 -- one more beyond the first from a to each of a set
 pub record Further (more : List ℕ) (a set : ℕ) (more' : List ℕ) : Type 0 where
   pub counts : (x y : ℕ) → kept y ≡ true → get_or more' (entry x y) 0 ≡ (if eqb a x && has_bit set y then further (get_or more (entry x y) 0) else get_or more (entry x y) 0)
   pub none : set ≡ 0 → more' ≡ more
-  pub size : length more' ≡ length more
 
 -- each of firsts may follow each of lasts that has a row, by one link more; where r is false none is a second one
 pub record LinksMore (rows more : List ℕ) (lasts firsts : ℕ) (rows' more' : List ℕ) (r : Bool) : Type 0 where
   pub linked : Linked rows lasts firsts rows'
   pub counts : Counts rows more (λ a b. if has_bit lasts a && has_bit firsts b then 1 else 0) rows' more'
   pub none : r ≡ false → more' ≡ more
-  pub rows_are : length rows' ≡ 61
-  pub size : length more' ≡ length more

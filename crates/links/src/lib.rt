@@ -2,64 +2,47 @@
 // 60 are counted only. A lent table has the numbers of links: entry 61 * a + b is how many lead from a to b beyond the first.
 #![tactic(auto)]
 
-ghost use Rattle.std.specs.Prelude.{◌≡◌, ◌&&◌, ◌||◌, ℕ, ◌<◌, ◌^◌, eqb, length};
+ghost use Rattle.std.specs.Prelude.{◌≡◌, ◌&&◌, ◌||◌, ℕ, ◌<◌, ◌^◌, eqb};
 ghost use Rattle.bits.specs.Bits.{has_bit};
-ghost use Rattle.links.specs.Rows.{further, Marks, Linked, Room, Further, LinksMore};
+ghost use Rattle.links.specs.Rows.{Marks, Linked, Further, LinksMore};
 
 // The rows of a table, one for each state.
 const ROWS: usize = 61;
 
 // Each of firsts may follow each of lasts that has a row.
 pub fn link(rows: &mut [u64; 61], lasts: u64, firsts: u64)
-    requires { length rows.old ≡ 61 }
-    ensures { Linked rows.old lasts firsts rows.new × (length rows.new ≡ 61) }
+    ensures { Linked rows.old lasts firsts rows.new }
 {
-    let mut left = bits::intersection(bits::below(61), lasts);
-    while left != 0 {
-        let a = bits::lowest(left);
+    for a in bits::members(bits::intersection(bits::below(61), lasts)) {
         rows[a] = bits::union(rows[a], firsts);
-        left = bits::rest(left);
     }
 }
 
 // The same by one link more, where they may follow already. Says whether one of them did.
-pub fn link_again(rows: &mut [u64; 61], more: &mut [u8], lasts: u64, firsts: u64) -> bool
-    requires { (length rows.old ≡ 61) × Room more.old }
+pub fn link_again(rows: &mut [u64; 61], more: &mut [u8; 3721], lasts: u64, firsts: u64) -> bool
     ensures { LinksMore rows.old more.old lasts firsts rows.new more.new result }
 {
     let all = bits::below(61);
     let ends = bits::intersection(all, firsts);
-    let mut left = bits::intersection(all, lasts);
     let mut again = false;
-    while left != 0 {
-        let a = bits::lowest(left);
+    for a in bits::members(bits::intersection(all, lasts)) {
         let old = bits::intersection(rows[a], ends);
         add(more, a, old);
-        again = again | (old != 0);
+        again |= old != 0;
         rows[a] = bits::union(rows[a], firsts);
-        left = bits::rest(left);
     }
     again
 }
 
-// One link more from a to each of a set.
-fn add(more: &mut [u8], a: usize, set: u64)
-    requires { (a < 61) × (set < 2 ^ 61) × Room more.old }
+// One link more from a to each of a set, up to 255.
+fn add(more: &mut [u8; 3721], a: usize, set: u64)
+    requires { (a < 61) × (set < 2 ^ 61) }
     ensures { Further more.old a set more.new }
 {
-    let mut left = set;
-    while left != 0 {
-        let k = 61 * a + bits::lowest(left);
-        more[k] = one_more(more[k]);
-        left = bits::rest(left);
+    for b in bits::members(set) {
+        let k = 61 * a + b;
+        more[k] = more[k].saturating_add(1);
     }
-}
-
-// One more, up to 255.
-fn one_more(x: u8) -> u8
-    ensures { result ≡ further x }
-{
-    if x < 255 { x + 1 } else { x }
 }
 
 // The set of position n alone: none past 60.

@@ -1,53 +1,49 @@
--- The loop's invariant: what the rows have, with those left to come, is what was to come at the start. The set of those left is
--- the measure. Assumes nothing.
-use mathlib.Core.Path.{refl, ap, ◌∙◌}
+-- The loop's invariant: what the rows have, with those left to come, is what was to come at the start. Assumes nothing.
+use mathlib.Core.Path.{◌≡◌, refl, ap, ◌∙◌}
 use mathlib.Core.Bool.{Bool, ◌&&◌, ◌||◌}
-use Prim.Native.Nat.{ℕ, ◌<◌, ◌^◌}
 use native.Mathlib.Omega.{arith}
-use lib.ListN.{get_or, length-set}
-use borrow.Author.Tests.{le-ltb}
-use Rattle.bits.specs.Bits.{has_bit, Least}
-use Rattle.bits.proofs.Laws.{lt_of_high, member_below}
-use Rattle.links.proofs.Linking.{link_turn, link_end}
+use lib.ListN.{length, get_or}
+use borrow.Author.Rules.{rules}
+use Rattle.bits.specs.Bits.{has_bit}
+use Rattle.links.proofs.Linking.{marks_kept, marks_few, link_turn, link_end, row_of}
 use Rattle.links.proofs.link.Goals as goal
 
--- a member has a row
-index : {m t : ℕ} → m < 2 ^ 61 → Least m t → t < 61
-index {m} {t} h l = member_below 61 m t h l.here
+pub loop-a-init : goal.loop-a-init
+loop-a-init c =
+    let left = c.into_iter-a-iterator.result.left in
+    let first : left ≡ c.intersection.result = cc in
+    (tt, tt, record { small = marks_few left _ (omega arith) (marks_kept _ _ _ left c.below.ensures c.intersection.ensures first); to_come = λ a b. refl })
 
-pub loop-left-init : goal.loop-left-init
-loop-left-init c =
-    (c.requires, lt_of_high 61 c.intersection-left.result c.intersection-left.type_inv (λ j h. c.intersection-left.ensures j ∙ ap (λ (t : Bool). t && has_bit c.args.lasts j) (c.below.ensures j ∙ le-ltb j 61 h)), λ a b. refl)
+pub offset_bounds-rows-a : goal.offset_bounds-rows-a
+offset_bounds-rows-a c = let i = row_of c.loop-a.invariant.2.small c.in-Some.ensures.steps in search rules
 
 pub bounds-rows-a : goal.bounds-rows-a
-bounds-rows-a c = index c.loop-left.invariant.1 c.lowest-a.ensures.1
+bounds-rows-a c = row_of c.loop-a.invariant.2.small c.in-Some.ensures.steps
 
-pub bounds-rows-a-in-loop-left : goal.bounds-rows-a-in-loop-left
-bounds-rows-a-in-loop-left c = index c.loop-left.invariant.1 c.lowest-a.ensures.1
+pub offset_bounds-rows-a-in-loop-a : goal.offset_bounds-rows-a-in-loop-a
+offset_bounds-rows-a-in-loop-a c = let i = row_of c.loop-a.invariant.2.small c.in-Some.ensures.steps in omega arith
 
-pub loop-left-smaller : goal.loop-left-smaller
-loop-left-smaller c = c.rest-left.ensures.0
+pub bounds-rows-a-in-loop-a : goal.bounds-rows-a-in-loop-a
+bounds-rows-a-in-loop-a c = row_of c.loop-a.invariant.2.small c.in-Some.ensures.steps
 
-pub loop-left-preserved : goal.loop-left-preserved
-loop-left-preserved c =
-    let at = c.loop-left in
-    let t = c.lowest-a in
-    let low : t.result < 61 = index at.invariant.1 t.ensures.1 in
-    let firsts = c.args.firsts in (
-      simp length-set at.invariant.0,
-      omega (arith, at.invariant.1, c.rest-left.ensures.0),
-      λ a b.
-          link_turn at.rows at.left firsts t.result c.union.result c.rest-left.result (omega (arith, at.invariant.0)) t.ensures.1 (c.rest-left.ensures.1 t.result t.ensures.1) c.union.ensures a b
-          ∙ at.invariant.2 a b,
+pub loop-a-preserved : goal.loop-a-preserved
+loop-a-preserved c =
+    let at = c.loop-a.invariant.2 in
+    let s = c.in-Some.ensures.steps in
+    let low = row_of at.small s in
+    let long : length c.loop-a.rows ≡ 61 = search rules in (
+      tt,
+      tt,
+      record {
+        small = omega (arith, at.small, s.fewer);
+        to_come = λ a b. link_turn _ _ _ _ _ _ (omega arith) s c.union.ensures a b ∙ at.to_come a b;
+      },
     )
 
 pub returns : goal.returns
-returns c =
-    let at = c.loop-left in
-    let start = c.args in (
-      λ a b.
-          link_end at.rows at.left start.firsts (omega arith) a b ∙ at.invariant.2 a b
-          ∙ ap (λ (t : Bool). has_bit (get_or start.rows.now a 0) b || (t && has_bit start.firsts b))
-          (c.intersection-left.ensures a ∙ ap (λ (t : Bool). t && has_bit start.lasts a) (c.below.ensures a)),
-      at.invariant.0,
-    )
+returns c a b =
+    let start = c.args in
+    let left = c.into_iter-a-iterator.result.left in
+    let first : left ≡ c.intersection.result = cc in
+    link_end _ _ start.firsts c.in-None.ensures.steps a b ∙ c.loop-a.invariant.2.to_come a b
+    ∙ ap (λ (t : Bool). has_bit (get_or start.rows.now a 0) b || (t && has_bit start.firsts b)) (marks_kept _ _ _ left c.below.ensures c.intersection.ensures first a)
