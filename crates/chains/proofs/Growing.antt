@@ -19,50 +19,17 @@ use Rattle.links.specs.Rows.{kept, Marks, Adds, number, after, Counts, Clear, Li
 use Rattle.links.proofs.Linking.{marks_if, marks_none}
 use Rattle.links.proofs.Counting.{adds_more, adds_one, counts_both, counts_new}
 use Rattle.parsed.specs.declared.Parsed.{Parsed}
+use Rattle.parsed.specs.declared.Tables.{Tables}
 use Rattle.parsed.specs.Parsed.{Shape, shape_of, Memory, memory, Keeps, Follows, Joins}
 use Rattle.parsed.proofs.Shapes.{either_shape, Owns, owns_part, owns_either}
 use Rattle.parsed.proofs.Joining.{none, clear_on, keeps_linked}
-use Rattle.chains.specs.Chains.{NextRows, Copied, none as no_copy, after as one-copy, NextPart, Chains}
+use Rattle.chains.specs.Chains.{Copied, none as no_copy, after as one-copy, NextPart, Chains}
 use Rattle.chains.proofs.Chains.{chain, owns_chain, chain_length, ends, interval, written}
 use Rattle.chains.proofs.Copying.{Fresh, fresh, marks_moved, copy_adds, copy_counts}
 
 -- where another copy is to come there is room for it
 pub room_for : (k copies w n : ℕ) → suc k < copies → n + (copies - 1) * w ≤ 60 → n + k * w + w ≤ 60
 room_for k copies w n l few = let o = suc-mul k w in let m = mul-le-mul_right {m = suc k} {n = copies - 1} w (omega arith) in omega arith
-
--- ---- the copies are made
-
--- i copies are there of `copies`, the first among them; `last` is the last position of the last of them
-pub record Making (w : ℕ) (doubled : Bool) (n copies : ℕ) (rows₀ more₀ rows more : List ℕ) (last i : ℕ) : Type 0 where
-  pub more_made : ℕ
-  pub made : i ≡ suc more_made
-  pub few : i ≤ copies
-  pub place : last ≡ n + more_made * w
-  pub rows_are : length rows ≡ 61
-  pub size : length more ≡ length more₀
-  pub copied : Copied w doubled n more_made rows₀ more₀ rows more
-
-module _ (w : ℕ) (doubled : Bool) (n copies : ℕ) (rows₀ more₀ : List ℕ) where
-  pub making_none : 0 < copies → length rows₀ ≡ 61 → Making w doubled n copies rows₀ more₀ rows₀ more₀ n 1
-  making_none some long = record { more_made = 0; made = refl; few = omega arith; place = let z = zero-mul w in omega arith; rows_are = long; size = refl; copied = no_copy }
-
-  module _ (rows more : List ℕ) (last i : ℕ) (s : Making w doubled n copies rows₀ more₀ rows more last i) where
-    pub making_room : i < copies → n + (copies - 1) * w ≤ 60 → last + w ≤ 60
-    making_room l few = omega (arith, s.place, room_for s.more_made copies w n (omega (arith, s.made)) few)
-
-    pub making_more : (rows' more' : List ℕ) → i < copies → NextRows w doubled last rows more rows' more' → length rows' ≡ 61 → Making w doubled n copies rows₀ more₀ rows' more' (last + w) (i + 1)
-    making_more rows' more' l next long = record {
-      more_made = suc s.more_made;
-      made = omega (arith, s.made);
-      few = omega arith;
-      place = let o = suc-mul s.more_made w in omega (arith, s.place);
-      rows_are = long;
-      size = next.size ∙ s.size;
-      copied = one-copy s.copied (subst (λ (v : ℕ). NextRows w doubled v rows more rows' more') s.place next);
-    }
-
-    pub making_all : copies ≤ i → Copied w doubled n (copies - 1) rows₀ more₀ rows more
-    making_all l = subst (λ (v : ℕ). Copied w doubled n v rows₀ more₀ rows more) (omega (arith, s.made, s.few)) s.copied
 
 -- ---- what no copy changes
 
@@ -206,14 +173,14 @@ module _ (n : ℕ) (m : Memory) (q : Part) where
       let o : over k a b ≡ (if (chained k).last n a && is_first (n + length (chained k).atoms) q b then 1 else 0) = ap (λ (j : ℕ). if (chained k).last n a && is_first (n + j) q b then 1 else 0) (sym (chain_length x (owns_part q) k)) in
       omega arith
 
-  module _ (lower K : ℕ) (sets credits : List ℕ) where
+  module _ (lower K : ℕ) (tables : Tables) where
     -- the chain of k copies more, where all are made
     abbrev mixed : ℕ → Shape
     mixed k = record { atoms = (chained k).atoms; empty = (chained k).empty; first = (chained k).first; last = (chained k).last; links = λ i a b. (side K).links n a b + overs k a b; misbounded = (chained k).misbounded }
 
     -- `all` is that chain, `one` its last copy, and it may end at `end`
     pub record Grown (k : ℕ) (rows more : List ℕ) (all one : Parsed) (end : ℕ) : Type 0 where
-      pub whole : Keeps n m (memory rows more sets credits) (mixed k) all
+      pub whole : Keeps n m (memory rows more tables) (mixed k) all
       pub empty : one.empty ≡ can_be_empty q
       pub firsts : Marks one.firsts (λ i. is_first (n + k * w) q i)
       pub lasts : Marks one.lasts (λ i. is_last (n + k * w) q i)
@@ -281,9 +248,9 @@ module _ (n : ℕ) (m : Memory) (q : Part) where
 
       -- the last copy may go round
       pub grown_turned : k ≡ K → (endless : Bool) (back : ℕ) (rows' more' : List ℕ) (second : Bool) (r : Parsed) → ((b : ℕ) → has_bit back b ≡ (has_bit 0 b || (endless && has_bit one.lasts b))) → LinksMore rows more back one.firsts rows' more' second
-          → r.empty ≡ (eqb lower 0 || all.empty) → r.firsts ≡ all.firsts → r.lasts ≡ end → r.doubled ≡ (all.doubled || second) → Keeps n m (memory rows' more' sets credits) (interval q lower k endless) r
+          → r.empty ≡ (eqb lower 0 || all.empty) → r.firsts ≡ all.firsts → r.lasts ≡ end → r.doubled ≡ (all.doubled || second) → Keeps n m (memory rows' more' tables) (interval q lower k endless) r
       grown_turned full endless back rows' more' second r j l e f d s =
-          keeps_linked n m (memory rows more sets credits) (mixed k) (interval q lower k endless) all r g.whole back one.firsts (λ a. endless && is_last (n + k * w) q a) (λ b. is_first (n + k * w) q b)
+          keeps_linked n m (memory rows more tables) (mixed k) (interval q lower k endless) all r g.whole back one.firsts (λ a. endless && is_last (n + k * w) q a) (λ b. is_first (n + k * w) q b)
           (marks_if back 0 one.lasts (λ a. false) (λ a. is_last (n + k * w) q a) endless j marks_none g.lasts) g.firsts rows' more' second l
           (e ∙ ap (λ (t : Bool). eqb lower 0 || t) g.whole.empty) (subst (λ (t : ℕ). Marks t ((chained k).first n)) (sym f) g.whole.firsts) (subst (λ (t : ℕ). Marks t (ends x (owns_part q) lower k n)) (sym d) g.stops) s
           (λ a b. ap (λ (i : ℕ). i + (if (endless && is_last (n + k * w) q a) && is_first (n + k * w) q b then 1 else 0)) (sym (joined_all k a b) ∙ ap (λ (i : ℕ). (side i).links n a b + overs k a b) full))
@@ -301,13 +268,12 @@ pub record Sofar (w copies lower : ℕ) (rows₀ more : List ℕ) (p : Parsed) (
   pub doubled : one.doubled ≡ p.doubled
   pub count : all.n ≡ p.n + more_made * w
   pub last_count : one.n ≡ all.n
-  pub rows_are : length rows ≡ 61
-  pub grown : (n : ℕ) (m : Memory) (sets credits : List ℕ) (q : Part) → positions q ≡ w → p.n ≡ n + w → Clear n m.rows m.more → Begun n m q (copies - 1) p rows₀ more
-      → Grown n m q lower (copies - 1) sets credits more_made rows more all one end
+  pub grown : (n : ℕ) (m : Memory) (tables : Tables) (q : Part) → positions q ≡ w → p.n ≡ n + w → Clear n m.rows m.more → Begun n m q (copies - 1) p rows₀ more
+      → Grown n m q lower (copies - 1) tables more_made rows more all one end
 
 module _ (w copies lower : ℕ) (rows₀ more : List ℕ) (p : Parsed) (some : 0 < copies) (room : p.n + (copies - 1) * w ≤ 60) where
-  pub begins : length rows₀ ≡ 61 → Sofar w copies lower rows₀ more p rows₀ p p p.lasts 1
-  begins long = record {
+  pub begins : Sofar w copies lower rows₀ more p rows₀ p p p.lasts 1
+  begins = record {
     more_made = 0;
     made = refl;
     few = omega arith;
@@ -316,17 +282,16 @@ module _ (w copies lower : ℕ) (rows₀ more : List ℕ) (p : Parsed) (some : 0
     doubled = refl;
     count = let z = zero-mul w in omega arith;
     last_count = refl;
-    rows_are = long;
-    grown = λ n m sets credits q e f c k. grown_none n m q lower (copies - 1) sets credits rows₀ more p k;
+    grown = λ n m tables q e f c k. grown_none n m q lower (copies - 1) tables rows₀ more p k;
   }
 
   module _ (rows : List ℕ) (all one : Parsed) (end i : ℕ) (s : Sofar w copies lower rows₀ more p rows all one end i) where
     pub has_room : i < copies → one.n + w ≤ 60
     has_room l = omega (arith, s.count, s.last_count, room_for s.more_made copies w p.n (omega (arith, s.made)) room)
 
-    pub goes_on : (rows' : List ℕ) (one' all' : Parsed) (end' : ℕ) → i < copies → NextPart w one one' → Joins rows rows' all one' all' → length rows' ≡ 61
+    pub goes_on : (rows' : List ℕ) (one' all' : Parsed) (end' : ℕ) → i < copies → NextPart w one one' → Joins rows rows' all one' all'
         → ((b : ℕ) → has_bit end' b ≡ (has_bit all'.lasts b || (leb lower i && has_bit end b))) → Sofar w copies lower rows₀ more p rows' all' one' end' (i + 1)
-    goes_on rows' one' all' end' l next joins long stop =
+    goes_on rows' one' all' end' l next joins stop =
         let count : one'.n ≡ one.n + w = ap (λ (y : Parsed). y.n) next.same in
         let double : one'.doubled ≡ p.doubled = ap (λ (y : Parsed). y.doubled) next.same ∙ s.doubled in
         record {
@@ -338,21 +303,20 @@ module _ (w copies lower : ℕ) (rows₀ more : List ℕ) (p : Parsed) (some : 0
           doubled = double;
           count = let o = suc-mul s.more_made w in omega (arith, joins.follows.count, count, s.count, s.last_count);
           last_count = sym joins.follows.count;
-          rows_are = long;
-          grown = λ n m sets credits q e f c k.
+          grown = λ n m tables q e f c k.
               let o = suc-mul s.more_made (positions q) in
-              let g = s.grown n m sets credits q e f c k in
+              let g = s.grown n m tables q e f c k in
               let few : n + suc s.more_made * positions q + positions q ≤ 60 = omega (arith, has_room l, s.count, s.last_count, f, ap (λ (v : ℕ). s.more_made * v) e, e) in
-              grown_more n m q lower (copies - 1) sets credits c s.more_made rows more all one end g rows' one' all' end' few (subst (λ (v : ℕ). NextPart v one one') (sym e) next) joins (λ d. k.beside.single (sym double ∙ d))
+              grown_more n m q lower (copies - 1) tables c s.more_made rows more all one end g rows' one' all' end' few (subst (λ (v : ℕ). NextPart v one one') (sym e) next) joins (λ d. k.beside.single (sym double ∙ d))
               (subst (λ (v : ℕ). (b : ℕ) → has_bit end' b ≡ (has_bit all'.lasts b || (leb lower v && has_bit end b))) s.made stop);
         }
 
     abbrev pub chained_to : Bool → Parsed
     chained_to second = record { good = all.good; at = all.at; n = all.n; empty = eqb lower 0 || all.empty; firsts = all.firsts; lasts = end; reversed = all.reversed; hollow = all.hollow; misbounded = all.misbounded; doubled = all.doubled || second }
 
-    pub stops : (start start-more : List ℕ) (endless : Bool) (back : ℕ) (rows' more' : List ℕ) (second : Bool) → Copied w p.doubled p.n (copies - 1) start start-more rows₀ more → copies ≤ i → length more ≡ length start-more → ((b : ℕ) → has_bit back b ≡ (has_bit 0 b || (endless && has_bit one.lasts b))) → LinksMore rows more back one.firsts rows' more' second
+    pub stops : (start start-more : List ℕ) (endless : Bool) (back : ℕ) (rows' more' : List ℕ) (second : Bool) → Copied w p.doubled p.n (copies - 1) start start-more rows₀ more → copies ≤ i → ((b : ℕ) → has_bit back b ≡ (has_bit 0 b || (endless && has_bit one.lasts b))) → LinksMore rows more back one.firsts rows' more' second
         → Chains w copies lower endless start start-more rows' more' p (chained_to second)
-    stops start start-more endless back rows' more' second copied l size j linked =
+    stops start start-more endless back rows' more' second copied l j linked =
         let k : copies ≡ suc s.more_made = omega (arith, s.made, s.few) in
         let less : s.more_made ≡ copies - 1 = omega arith in
         record {
@@ -362,7 +326,7 @@ module _ (w copies lower : ℕ) (rows₀ more : List ℕ) (p : Parsed) (some : 0
           reversed = s.all_like.reversed;
           hollow = s.all_like.hollow;
           misbounded = s.all_like.misbounded;
-          keeps = λ n m sets credits q b e many low f wide at c kept.
+          keeps = λ n m tables q b e many low f wide at c kept.
               let o = suc-mul (copies - 1) (positions q) in
               let begun : Begun n m q (copies - 1) p rows₀ more =
               record {
@@ -372,7 +336,6 @@ module _ (w copies lower : ℕ) (rows₀ more : List ℕ) (p : Parsed) (some : 0
                 beside = sides n m q (subst (λ (u : ℕ × ℕ). Copied u.0 p.doubled u.1 (copies - 1) start start-more rows₀ more) (λ t. (sym wide t, (at ∙ ap (λ (v : ℕ). n + v) (sym wide)) t)) copied)
                     (omega (arith, room, at, wide, ap (λ (v : ℕ). (copies - 1) * v) wide)) c kept.adds kept.counts kept.none;
               } in
-              subst (λ (x : Shape). Keeps n m (memory rows' more' sets credits) x (chained_to second)) ((λ t. interval q (low t) s.more_made (f t)) ∙ sym (written q b s.more_made e (sym many ∙ k)))
-              (grown_turned n m q lower (copies - 1) sets credits c s.more_made rows more all one end (s.grown n m sets credits q wide at c begun) less endless back rows' more' second (chained_to second) j linked refl refl refl refl);
-          size = linked.size ∙ size;
+              subst (λ (x : Shape). Keeps n m (memory rows' more' tables) x (chained_to second)) ((λ t. interval q (low t) s.more_made (f t)) ∙ sym (written q b s.more_made e (sym many ∙ k)))
+              (grown_turned n m q lower (copies - 1) tables c s.more_made rows more all one end (s.grown n m tables q wide at c begun) less endless back rows' more' second (chained_to second) j linked refl refl refl refl);
         }

@@ -1,10 +1,11 @@
 -- Copies of a part, one after the other: what they have in rows and in the table of links beyond the first.
-use Rattle.std.specs.Prelude.{◌≡◌, Bool, true, false, List, ℕ, suc, ◌+◌, ◌-◌, ◌*◌, max, length, if◌then◌else◌}
+use Rattle.std.specs.Prelude.{◌≡◌, Bool, true, false, List, ℕ, suc, ◌+◌, ◌-◌, ◌*◌, max, if◌then◌else◌}
 use Rattle.pattern.specs.Parts.{Part, Bounds, out_of_bounds, written_out}
 use Rattle.pattern.specs.Positions.{positions}
 use Rattle.links.specs.Rows.{Clear}
 use Rattle.copies.specs.Copies.{Same, Moved, Repeats}
 use Rattle.parsed.specs.declared.Parsed.{Parsed}
+use Rattle.parsed.specs.declared.Tables.{Tables}
 use Rattle.parsed.specs.Parsed.{shape_of, Memory, memory, Keeps}
 
 -- how many copies an interval is written out in
@@ -17,7 +18,6 @@ pub record NextRows (w : ℕ) (doubled : Bool) (n : ℕ) (rows more rows' more' 
   pub copied : Repeats (Moved w) (n - w + 1) (n + 1) w rows rows'
   pub numbers : doubled ≡ true → Repeats Same (62 * (n - w + 1)) (62 * n + 1) (62 * w) more more'
   pub none : doubled ≡ false → more' ≡ more
-  pub size : length more' ≡ length more
 
 -- k copies more, one after the other
 pub data Copied (w : ℕ) (doubled : Bool) (n : ℕ) : ℕ → List ℕ → List ℕ → List ℕ → List ℕ → Type 0 where
@@ -39,6 +39,5 @@ pub record Chains (w copies lower : ℕ) (endless : Bool) (rows more rows' more'
   pub reversed : r.reversed ≡ p.reversed
   pub hollow : r.hollow ≡ p.hollow
   pub misbounded : r.misbounded ≡ p.misbounded
-  pub keeps : (n : ℕ) (m : Memory) (sets credits : List ℕ) (q : Part) (b : Bounds) → out_of_bounds b ≡ false → copies ≡ how_many b → lower ≡ b.lower → endless ≡ b.endless
-      → positions q ≡ w → p.n ≡ n + w → Clear n m.rows m.more → Keeps n m (memory rows more sets credits) (shape_of q) p → Keeps n m (memory rows' more' sets credits) (shape_of (written_out b q)) r
-  pub size : length more' ≡ length more
+  pub keeps : (n : ℕ) (m : Memory) (tables : Tables) (q : Part) (b : Bounds) → out_of_bounds b ≡ false → copies ≡ how_many b → lower ≡ b.lower → endless ≡ b.endless
+      → positions q ≡ w → p.n ≡ n + w → Clear n m.rows m.more → Keeps n m (memory rows more tables) (shape_of q) p → Keeps n m (memory rows' more' tables) (shape_of (written_out b q)) r

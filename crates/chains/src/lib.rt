@@ -2,8 +2,7 @@
 // alone; so a copy of it is its rows and its numbers of links, moved on, and the copies are joined as pieces are.
 #![tactic(auto)]
 
-ghost use Rattle.std.specs.Prelude.{◌≡◌, ◌+◌, ◌-◌, ◌*◌, ◌<◌, ◌≤◌, length};
-ghost use Rattle.links.specs.Rows.{Room};
+ghost use Rattle.std.specs.Prelude.{◌≡◌, ◌+◌, ◌-◌, ◌*◌, ◌<◌, ◌≤◌};
 ghost use Rattle.chains.specs.Chains.{NextRows, Copied, NextPart, Chains};
 
 use parsed::Parsed;
@@ -17,48 +16,51 @@ pub fn chain(
     lower: usize,
     endless: bool,
     rows: &mut [u64; 61],
-    more: &mut [u8],
+    more: &mut [u8; 3721],
 ) -> Parsed
-    requires { (0 < w) × (w ≤ p.n) × (0 < copies) × (p.n + (copies - 1) * w ≤ 60) × (length rows.old ≡ 61) × Room more.old }
-    ensures { Chains w copies lower endless rows.old more.old rows.new more.new p result × (length rows.new ≡ 61) }
+    requires { (0 < w) × (w ≤ p.n) × (0 < copies) × (p.n + (copies - 1) * w ≤ 60) }
+    ensures { Chains w copies lower endless rows.old more.old rows.new more.new p result }
 {
-    copy(p.n, p.doubled, w, copies, rows, more);
+    copy(p.n, p.doubled, w, copies - 1, rows, more);
     let mut all = p;
     let mut one = p;
     let mut ends = p.lasts;
-    let mut i = 1;
-    while i < copies {
+    for i in 1..copies {
         one = next(one, w);
-        all = parsed::join(rows, all, one);
+        all = all.join(rows, one);
         ends = links::union_if(lower <= i, all.lasts, ends);
-        i += 1;
     }
     let back = links::union_if(endless, 0, one.lasts);
     let second = links::link_again(rows, more, back, one.firsts);
-    all.empty = (lower == 0) | all.empty;
-    all.lasts = ends;
-    all.doubled = all.doubled | second;
-    all
+    Parsed {
+        empty: (lower == 0) | all.empty,
+        lasts: ends,
+        doubled: all.doubled | second,
+        ..all
+    }
 }
 
-// The rows of all copies of a part, side by side, and their numbers of links. The part has w positions, up to n.
-fn copy(n: usize, doubled: bool, w: usize, copies: usize, rows: &mut [u64; 61], more: &mut [u8])
-    requires { (0 < w) × (w ≤ n) × (0 < copies) × (n + (copies - 1) * w ≤ 60) × (length rows.old ≡ 61) × Room more.old }
-    ensures { Copied w doubled n (copies - 1) rows.old more.old rows.new more.new × (length rows.new ≡ 61) }
+// The rows of so many copies more of a part, side by side, and their numbers of links. The part has w positions, up to n.
+fn copy(
+    n: usize,
+    doubled: bool,
+    w: usize,
+    copies: usize,
+    rows: &mut [u64; 61],
+    more: &mut [u8; 3721],
+)
+    requires { (0 < w) × (w ≤ n) × (n + copies * w ≤ 60) }
+    ensures { Copied w doubled n copies rows.old more.old rows.new more.new }
 {
-    let mut last = n;
-    let mut made = 1;
-    while made < copies {
-        next_rows(last, doubled, w, rows, more);
-        last += w;
-        made += 1;
+    for made in 0..copies {
+        next_rows(n + made * w, doubled, w, rows, more);
     }
 }
 
 // Those of one copy more, after one that has w positions, up to n.
-fn next_rows(n: usize, doubled: bool, w: usize, rows: &mut [u64; 61], more: &mut [u8])
-    requires { (0 < w) × (w ≤ n) × (n + w ≤ 60) × (length rows.old ≡ 61) × Room more.old }
-    ensures { NextRows w doubled n rows.old more.old rows.new more.new × (length rows.new ≡ 61) }
+fn next_rows(n: usize, doubled: bool, w: usize, rows: &mut [u64; 61], more: &mut [u8; 3721])
+    requires { (0 < w) × (w ≤ n) × (n + w ≤ 60) }
+    ensures { NextRows w doubled n rows.old more.old rows.new more.new }
 {
     let from = n - w + 1;
     copies::rows(rows, from, n + 1, w);
@@ -72,9 +74,10 @@ fn next(p: Parsed, w: usize) -> Parsed
     requires { p.n + w ≤ 60 }
     ensures { NextPart w p result }
 {
-    let mut out = p;
-    out.n = p.n + w;
-    out.firsts = bits::moved(p.firsts, w);
-    out.lasts = bits::moved(p.lasts, w);
-    out
+    Parsed {
+        n: p.n + w,
+        firsts: bits::moved(p.firsts, w),
+        lasts: bits::moved(p.lasts, w),
+        ..p
+    }
 }

@@ -14,7 +14,7 @@ pub fn entries<T: Copy>(table: &mut [T], from: usize, to: usize, by: usize)
 
 // The same in rows of sets, with the members moved on as far as the rows are.
 pub fn rows(rows: &mut [u64; 61], from: usize, to: usize, by: usize)
-    requires { (0 < by) × (from ≤ to) × (to + by ≤ 61) × (length rows.old ≡ 61) }
+    requires { (0 < by) × (from ≤ to) × (to + by ≤ 61) }
     ensures { Repeats (Moved by) from to by rows.old rows.new }
 {
     copy_on(rows, from, to, by, |row| bits::moved(row, by));

@@ -15,6 +15,7 @@ use Rattle.pattern.specs.Parts.{Atom, holds, Repeat, skips, loops, is_misbounded
 use Rattle.pattern.specs.Positions.{is_first, is_last, links}
 use Rattle.pattern.specs.Refusals.{some_reversed, any_reversed, any_empty, any_misbounded}
 use Rattle.parsed.specs.declared.Parsed.{Parsed}
+use Rattle.parsed.specs.declared.Tables.{Tables}
 use Rattle.links.specs.Rows.{kept, Marks, Adds, number, after, Counts, Clear, LinksMore}
 use Rattle.parsed.specs.Tables.{Stored}
 use Rattle.parsed.specs.Parsed.{Shape, shape_of, Memory, memory, Keeps, Has, nothing_read, Either, Joins}
@@ -31,13 +32,13 @@ has_nothing at n m empty low = record {
   hollow = refl;
   misbounded = refl;
   keeps = λ h c. record { empty = refl; firsts = marks_none; lasts = marks_none; adds = adds_none m.rows; counts = λ a b k l. refl; none = λ e. refl };
-  stores = λ h al l st. subst (λ (x : List Atom). Stored x m.sets m.credits) (sym (append-nil al)) st;
+  stores = λ h al l st. subst (λ (x : List Atom). Stored x m.tables.sets m.tables.credits) (sym (append-nil al)) st;
 }
 
-pub has_read_letter : (n : ℕ) (rows more sets credits sets' credits' : List ℕ) (x : Atom) (at count own : ℕ) (reversed hollow : Bool) → count ≡ min (n + 1) 61 → (n + 1 ≤ 60 → Marks own (λ b. eqb b (n + 1)))
-    → reversed ≡ some_reversed x.items → hollow ≡ not (some_letter (holds x)) → (n + 1 ≤ 60 → (al : List Atom) → length al ≡ n → Stored al sets credits → Stored (al ++ (x ∷ [])) sets' credits')
-    → Has n (memory rows more sets credits) (memory rows more sets' credits') (shape_of (letter x)) record { good = true; at = at; n = count; empty = false; firsts = own; lasts = own; reversed = reversed; hollow = hollow; misbounded = false; doubled = false }
-has_read_letter n rows more sets credits sets' credits' x at count own reversed hollow cuts m turned empty stored = record {
+pub has_read_letter : (n : ℕ) (rows more : List ℕ) (tables tables' : Tables) (x : Atom) (at count own : ℕ) (reversed hollow : Bool) → count ≡ min (n + 1) 61 → (n + 1 ≤ 60 → Marks own (λ b. eqb b (n + 1)))
+    → reversed ≡ some_reversed x.items → hollow ≡ not (some_letter (holds x)) → (n + 1 ≤ 60 → (al : List Atom) → length al ≡ n → Stored al tables.sets tables.credits → Stored (al ++ (x ∷ [])) tables'.sets tables'.credits)
+    → Has n (memory rows more tables) (memory rows more tables') (shape_of (letter x)) record { good = true; at = at; n = count; empty = false; firsts = own; lasts = own; reversed = reversed; hollow = hollow; misbounded = false; doubled = false }
+has_read_letter n rows more tables tables' x at count own reversed hollow cuts m turned empty stored = record {
   count = cuts;
   reversed = turned ∙ sym (or-false (some_reversed x.items));
   hollow = empty ∙ sym (or-false (not (some_letter (holds x))));
@@ -73,7 +74,7 @@ module _ (n : ℕ) (m m₁ : Memory) (x y : Shape) (a r : Parsed) (k : Keeps n m
   over i j = if f i && g j then 1 else 0
 
   pub keeps_linked : r.empty ≡ y.empty → Marks r.firsts (y.first n) → Marks r.lasts (y.last n) → r.doubled ≡ (a.doubled || second) → ((i j : ℕ) → y.links n i j ≡ x.links n i j + (if f i && g j then 1 else 0))
-      → Keeps n m (memory rows' more' m₁.sets m₁.credits) y r
+      → Keeps n m (memory rows' more' m₁.tables) y r
   keeps_linked e first last d more-links = record {
     empty = e;
     firsts = first;
@@ -87,18 +88,18 @@ module _ (n : ℕ) (m m₁ : Memory) (x y : Shape) (a r : Parsed) (k : Keeps n m
     none = λ h. let parts = or_parts a.doubled second (sym d ∙ h) in l.none parts.1 ∙ k.none parts.0;
   }
 
-pub has_again : (n : ℕ) (m : Memory) (rows more sets credits : List ℕ) (p : Part) (a : Parsed) → Has n m (memory rows more sets credits) (shape_of p) a
+pub has_again : (n : ℕ) (m : Memory) (rows more : List ℕ) (tables : Tables) (p : Part) (a : Parsed) → Has n m (memory rows more tables) (shape_of p) a
     → (k : Repeat) (at : ℕ) (skip loop : Bool) → skips k ≡ skip → loops k ≡ loop → is_misbounded k ≡ false → (back : ℕ) (rows' more' : List ℕ) (second : Bool)
     → ((b : ℕ) → has_bit back b ≡ (has_bit 0 b || (loop && has_bit a.lasts b))) → LinksMore rows more back a.firsts rows' more' second
-    → Has n m (memory rows' more' sets credits) (shape_of (again k p)) record { good = a.good; at = at; n = a.n; empty = skip || a.empty; firsts = a.firsts; lasts = a.lasts; reversed = a.reversed; hollow = a.hollow; misbounded = a.misbounded; doubled = a.doubled || second }
-has_again n m rows more sets credits p a ha k at skip loop e f named back rows' more' second j l = record {
+    → Has n m (memory rows' more' tables) (shape_of (again k p)) record { good = a.good; at = at; n = a.n; empty = skip || a.empty; firsts = a.firsts; lasts = a.lasts; reversed = a.reversed; hollow = a.hollow; misbounded = a.misbounded; doubled = a.doubled || second }
+has_again n m rows more tables p a ha k at skip loop e f named back rows' more' second j l = record {
   count = ha.count;
   reversed = ha.reversed;
   hollow = ha.hollow;
   misbounded = ha.misbounded ∙ ap (λ (u : Bool). u || any_misbounded p) (sym named);
   keeps = λ h c.
       let w = ha.keeps h c in
-      keeps_linked n m (memory rows more sets credits) (shape_of p) (shape_of (again k p)) a _ w back a.firsts (λ x. loop && is_last n p x) (λ y. is_first n p y)
+      keeps_linked n m (memory rows more tables) (shape_of p) (shape_of (again k p)) a _ w back a.firsts (λ x. loop && is_last n p x) (λ y. is_first n p y)
       (marks_if back 0 a.lasts (λ x. false) (λ x. is_last n p x) loop j marks_none w.lasts) w.firsts rows' more' second l (ap₂ ◌||◌ (sym e) w.empty) w.firsts w.lasts refl
       (λ x y. ap (λ (u : ℕ). links n p x y + u) (sym (round x y)));
   stores = ha.stores;
@@ -165,7 +166,7 @@ module _ (n : ℕ) (m m₁ m₂ : Memory) (p q : Shape) (op : Owns p) (oq : Owns
     none = λ d. none_both (or_parts a.doubled b.doubled (sym e.doubled ∙ d));
   }
 
-  pub keeps_joined : (rows : List ℕ) (r : Parsed) → Joins m₂.rows rows a b r → Keeps n m (memory rows m₂.more m₂.sets m₂.credits) (joined_shape p q) r
+  pub keeps_joined : (rows : List ℕ) (r : Parsed) → Joins m₂.rows rows a b r → Keeps n m (memory rows m₂.more m₂.tables) (joined_shape p q) r
   keeps_joined rows r e = record {
     empty = e.empty ∙ ap₂ ◌&&◌ ka.empty kb.empty;
     firsts =
@@ -218,9 +219,9 @@ module _ (n : ℕ) (m m₁ m₂ : Memory) (p q : Shape) (op : Owns p) (oq : Owns
       second_keeps : Keeps (n + length p.atoms) m₁ m₂ q b
       second_keeps = subst (λ (k : ℕ). Keeps k m₁ m₂ q b) begins (hb.keeps second_few (subst (λ (k : ℕ). Clear k m₁.rows m₁.more) (sym begins) second_clear))
 
-    stored : (al : List Atom) → length al ≡ n → Stored al m.sets m.credits → Stored (al ++ (p.atoms ++ q.atoms)) m₂.sets m₂.credits
+    stored : (al : List Atom) → length al ≡ n → Stored al m.tables.sets m.tables.credits → Stored (al ++ (p.atoms ++ q.atoms)) m₂.tables.sets m₂.tables.credits
     stored al l st =
-        subst (λ (x : List Atom). Stored x m₂.sets m₂.credits) (append_assoc al p.atoms q.atoms)
+        subst (λ (x : List Atom). Stored x m₂.tables.sets m₂.tables.credits) (append_assoc al p.atoms q.atoms)
         (hb.stores second_few (al ++ p.atoms) (omega (arith, l, begins, length-append al p.atoms)) (ha.stores first_few al l st))
 
   pub has_either : (r : Parsed) → Either a b r → Has n m m₂ (either_shape p q) r
@@ -233,7 +234,7 @@ module _ (n : ℕ) (m m₁ m₂ : Memory) (p q : Shape) (op : Owns p) (oq : Owns
     stores = stored;
   }
 
-  pub has_joined : (rows : List ℕ) (r : Parsed) → Joins m₂.rows rows a b r → Has n m (memory rows m₂.more m₂.sets m₂.credits) (joined_shape p q) r
+  pub has_joined : (rows : List ℕ) (r : Parsed) → Joins m₂.rows rows a b r → Has n m (memory rows m₂.more m₂.tables) (joined_shape p q) r
   has_joined rows r e = record {
     count = e.follows.count ∙ counted;
     reversed = e.follows.reversed ∙ turned;

@@ -19,6 +19,7 @@ use Rattle.atoms.specs.declared.Lettered.{Lettered}
 use Rattle.atoms.specs.Atoms.{ReadsAtom}
 use Rattle.places.proofs.Places.{next_within}
 use Rattle.parsed.specs.declared.Parsed.{Parsed}
+use Rattle.parsed.specs.declared.Tables.{Tables}
 use Rattle.links.specs.Rows.{Marks, LinksMore}
 use Rattle.parsed.specs.Parsed.{Shape, shape_of, Memory, memory, Has, StandsFor, Stands, Letters, closed_read}
 use Rattle.parsed.proofs.Storing.{Filled, one_stored}
@@ -34,10 +35,10 @@ stands_not s at n m m' good x rest r e h = record { same = e ∙ sym h; gives = 
 
 -- ---- a lettered atom
 
-pub letter_stands : (s : List ℕ) (at n own count : ℕ) (sets credits sets' credits' : List ℕ) (R : Read) (l : Lettered) → ReadsAtom s at R l → l.good ≡ true → count ≡ min (n + 1) 61 → (n + 1 ≤ 60 → Marks own (λ b. eqb b (n + 1)))
-    → length credits ≡ 61 → (n + 1 ≤ 60 → Filled (n + 1) l.set l.credit sets credits sets' credits')
-    → Letters s at n sets credits sets' credits' R record { good = true; at = l.at; n = count; empty = false; firsts = own; lasts = own; reversed = l.reversed; hollow = l.hollow; misbounded = false; doubled = false }
-letter_stands s at n own count sets credits sets' credits' R l w g cuts m long put rows more =
+pub letter_stands : (s : List ℕ) (at n own count : ℕ) (tables tables' : Tables) (R : Read) (l : Lettered) → ReadsAtom s at R l → l.good ≡ true → count ≡ min (n + 1) 61 → (n + 1 ≤ 60 → Marks own (λ b. eqb b (n + 1)))
+    → length tables.credits ≡ 61 → (n + 1 ≤ 60 → Filled (n + 1) l.set l.credit tables tables')
+    → Letters s at n tables tables' R record { good = true; at = l.at; n = count; empty = false; firsts = own; lasts = own; reversed = l.reversed; hollow = l.hollow; misbounded = false; doubled = false }
+letter_stands s at n own count tables tables' R l w g cuts m long put rows more =
     let made : Parsed = record { good = true; at = l.at; n = count; empty = false; firsts = own; lasts = own; reversed = l.reversed; hollow = l.hollow; misbounded = false; doubled = false } in
     let is = w.has g in
     record {
@@ -47,9 +48,9 @@ letter_stands s at n own count sets credits sets' credits' R l w g cuts m long p
         within = w.within g;
         goes = w.rest g;
         has =
-            subst (λ (p : Part). Has n (memory rows more sets credits) (memory rows more sets' credits') (shape_of p) made) (sym is.part)
-            (has_read_letter n rows more sets credits sets' credits' is.what l.at count own l.reversed l.hollow cuts m is.turned is.hollow
-            (λ h al e st. one_stored al is.what (n + 1) l.set l.credit sets credits sets' credits' long (omega arith) h (put h) is.has is.credit is.small st));
+            subst (λ (p : Part). Has n (memory rows more tables) (memory rows more tables') (shape_of p) made) (sym is.part)
+            (has_read_letter n rows more tables tables' is.what l.at count own l.reversed l.hollow cuts m is.turned is.hollow
+            (λ h al e st. one_stored al is.what (n + 1) l.set l.credit tables tables' long (omega arith) h (put h) is.has is.credit is.small st));
       };
     }
 
@@ -98,11 +99,11 @@ module _ (s : List ℕ) (at n : ℕ) (m now : Memory) (R : Read) (p : Parsed) (w
 
 -- ---- a repeat
 
-pub again_stands : (s : List ℕ) (at n : ℕ) (m : Memory) (rows more sets credits : List ℕ) (R : Read) (p : Parsed) → Stands s at n m (memory rows more sets credits) R p
+pub again_stands : (s : List ℕ) (at n : ℕ) (m : Memory) (rows more : List ℕ) (tables : Tables) (R : Read) (p : Parsed) → Stands s at n m (memory rows more tables) R p
     → (k : Repeat) (skip loop : Bool) → skips k ≡ skip → loops k ≡ loop → is_misbounded k ≡ false → p.good ≡ true → p.at < length s → (back : ℕ) (rows' more' : List ℕ) (second : Bool)
     → ((b : ℕ) → has_bit back b ≡ (has_bit 0 b || (loop && has_bit p.lasts b))) → LinksMore rows more back p.firsts rows' more' second
-    → Stands s at n m (memory rows' more' sets credits) (read (again k R.part) (drop 1 R.rest))
+    → Stands s at n m (memory rows' more' tables) (read (again k R.part) (drop 1 R.rest))
     record { good = p.good; at = p.at + 1; n = p.n; empty = skip || p.empty; firsts = p.firsts; lasts = p.lasts; reversed = p.reversed; hollow = p.hollow; misbounded = p.misbounded; doubled = p.doubled || second }
-again_stands s at n m rows more sets credits R p w k skip loop e f named g l back rows' more' second j linked =
-    stands_next s at n m (memory rows more sets credits) R p w (again k R.part) (memory rows' more' sets credits) _ g l refl refl
-    (λ h. has_again n m rows more sets credits R.part p h k (p.at + 1) skip loop e f named back rows' more' second j linked)
+again_stands s at n m rows more tables R p w k skip loop e f named g l back rows' more' second j linked =
+    stands_next s at n m (memory rows more tables) R p w (again k R.part) (memory rows' more' tables) _ g l refl refl
+    (λ h. has_again n m rows more tables R.part p h k (p.at + 1) skip loop e f named back rows' more' second j linked)

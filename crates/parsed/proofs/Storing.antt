@@ -16,6 +16,7 @@ use Rattle.set_table.specs.Table.{set_in, Writes}
 use Rattle.graph.specs.Built.{lowered, credit_in}
 use Rattle.pattern.specs.Parts.{Atom, holds}
 use Rattle.pattern.specs.Grammar.{no_atom}
+use Rattle.parsed.specs.declared.Tables.{Tables}
 use Rattle.parsed.specs.Tables.{atom_of, Stored}
 
 -- ---- no atom
@@ -47,18 +48,18 @@ one_more {F} what shown shown' al x h others here same i =
     entry l = what (get_or (no_atom ∷ l) i no_atom)
 
 -- the entry k of both tables is set
-pub record Filled (k : ℕ) (s : LetterSet) (credit : ℕ) (sets credits sets' credits' : List ℕ) : Type 0 where
-  pub letters : Writes k s sets sets'
-  pub numbers : credits' ≡ set credits k credit
+pub record Filled (k : ℕ) (s : LetterSet) (credit : ℕ) (tables tables' : Tables) : Type 0 where
+  pub letters : Writes k s tables.sets tables'.sets
+  pub numbers : tables'.credits ≡ set tables.credits k credit
 
-pub one_stored : (al : List Atom) (x : Atom) (k : ℕ) (s : LetterSet) (credit : ℕ) (sets credits sets' credits' : List ℕ) → length credits ≡ 61 → k ≡ suc (length al) → k ≤ 60
-    → Filled k s credit sets credits sets' credits' → ((c : ℕ) → has_letter s c ≡ holds x c) → lowered 1 credit ≡ x.credit → credit ≤ 18 → Stored al sets credits → Stored (al ++ (x ∷ [])) sets' credits'
-one_stored al x k s credit sets credits sets' credits' long is room w held earns low st = record {
-  has = λ i c. one_more (λ y. holds y c) (λ j. has_letter (set_in sets j) c) (λ j. has_letter (set_in sets' j) c) al x (omega arith)
+pub one_stored : (al : List Atom) (x : Atom) (k : ℕ) (s : LetterSet) (credit : ℕ) (tables tables' : Tables) → length tables.credits ≡ 61 → k ≡ suc (length al) → k ≤ 60
+    → Filled k s credit tables tables' → ((c : ℕ) → has_letter s c ≡ holds x c) → lowered 1 credit ≡ x.credit → credit ≤ 18 → Stored al tables.sets tables.credits → Stored (al ++ (x ∷ [])) tables'.sets tables'.credits
+one_stored al x k s credit tables tables' long is room w held earns low st = record {
+  has = λ i c. one_more (λ y. holds y c) (λ j. has_letter (set_in tables.sets j) c) (λ j. has_letter (set_in tables'.sets j) c) al x (omega arith)
       (λ j d. ap (λ (t : LetterSet). has_letter t c) (w.letters.others j (λ z. d (sym z ∙ is))))
-      (ap (λ (j : ℕ). has_letter (set_in sets' j) c) (sym is) ∙ ap (λ (t : LetterSet). has_letter t c) w.letters.here ∙ held c) (λ j. st.has j c) i;
-  credit = λ i. one_more (λ y. y.credit) (credit_in credits) (credit_in credits') al x (omega arith)
-      (λ j d. ap (λ (l : List ℕ). credit_in l j) w.numbers ∙ ap (lowered 1) (get_or-set_other credits k j credit 9 (λ z. d (z ∙ is))))
-      (ap (credit_in credits') (sym is) ∙ ap (λ (l : List ℕ). credit_in l k) w.numbers ∙ ap (lowered 1) (get_or-set_same credits k credit 9 (omega arith)) ∙ earns) st.credit i;
-  small = λ i. omega (arith, ap (λ (l : List ℕ). get_or l i 9) w.numbers, set_keeps (λ (n : ℕ). n ≤ 18) credits k credit 9 low st.small i);
+      (ap (λ (j : ℕ). has_letter (set_in tables'.sets j) c) (sym is) ∙ ap (λ (t : LetterSet). has_letter t c) w.letters.here ∙ held c) (λ j. st.has j c) i;
+  credit = λ i. one_more (λ y. y.credit) (credit_in tables.credits) (credit_in tables'.credits) al x (omega arith)
+      (λ j d. ap (λ (l : List ℕ). credit_in l j) w.numbers ∙ ap (lowered 1) (get_or-set_other tables.credits k j credit 9 (λ z. d (z ∙ is))))
+      (ap (credit_in tables'.credits) (sym is) ∙ ap (λ (l : List ℕ). credit_in l k) w.numbers ∙ ap (lowered 1) (get_or-set_same tables.credits k credit 9 (omega arith)) ∙ earns) st.credit i;
+  small = λ i. omega (arith, ap (λ (l : List ℕ). get_or l i 9) w.numbers, set_keeps (λ (n : ℕ). n ≤ 18) tables.credits k credit 9 low st.small i);
 }

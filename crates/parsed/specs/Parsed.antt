@@ -3,12 +3,15 @@
 use Rattle.std.specs.Prelude.{◌≡◌, Bool, true, false, ◌&&◌, ◌||◌, List, ◌++◌, ℕ, ◌+◌, ◌<◌, ◌≤◌, min, eqb, ltb, length, drop, if◌then◌else◌}
 use Prim.Native.Char.{code}
 use Rattle.bits.specs.Bits.{has_bit}
-use Rattle.pattern.specs.Parts.{Atom, Repeat, skips, loops, is_misbounded, Part, again}
+use Rattle.pattern.specs.Parts.{Atom, Repeat, optional, star, plus, Part, again}
 use Rattle.pattern.specs.Grammar.{Read, read, broken, peek}
 use Rattle.pattern.specs.Positions.{atoms, can_be_empty, is_first, is_last, links}
 use Rattle.pattern.specs.Refusals.{any_reversed, any_empty, any_misbounded}
 use Rattle.links.specs.Rows.{Marks, Adds, Linked, Counts, Clear}
 use Rattle.parsed.specs.declared.Parsed.{Parsed}
+use Rattle.parsed.specs.declared.Repeat.{Repeat as Repeating}
+use Rattle.parsed.specs.declared.Repeat.TheVariants.{Optional, Star, Plus}
+use Rattle.parsed.specs.declared.Tables.{Tables}
 use Rattle.parsed.specs.Tables.{Stored}
 
 -- ---- a part, parsed
@@ -30,11 +33,10 @@ shape_of p = record { atoms = atoms p; empty = can_be_empty p; first = λ n x. i
 pub record Memory : Type 0 where
   pub rows : List ℕ
   pub more : List ℕ
-  pub sets : List ℕ
-  pub credits : List ℕ
+  pub tables : Tables
 
-abbrev pub memory : List ℕ → List ℕ → List ℕ → List ℕ → Memory
-memory rows more sets credits = record { rows = rows; more = more; sets = sets; credits = credits }
+abbrev pub memory : List ℕ → List ℕ → Tables → Memory
+memory rows more tables = record { rows = rows; more = more; tables = tables }
 
 -- the result r and the memory after it have what follows what in the shape x, with n positions to its left: m is the memory before
 -- it, and m' that with its own links added. Where r is not doubled, none is counted beyond the first
@@ -54,7 +56,7 @@ pub record Has (n : ℕ) (m m' : Memory) (x : Shape) (r : Parsed) : Type 0 where
   pub hollow : r.hollow ≡ any_empty x.atoms
   pub misbounded : r.misbounded ≡ x.misbounded
   pub keeps : n + length x.atoms ≤ 60 → Clear n m.rows m.more → Keeps n m m' x r
-  pub stores : n + length x.atoms ≤ 60 → (al : List Atom) → length al ≡ n → Stored al m.sets m.credits → Stored (al ++ x.atoms) m'.sets m'.credits
+  pub stores : n + length x.atoms ≤ 60 → (al : List Atom) → length al ≡ n → Stored al m.tables.sets m.tables.credits → Stored (al ++ x.atoms) m'.tables.sets m'.tables.credits
 
 -- r is what was parsed of the text s from the place `at` on: it has the shape x, and the text goes on with `rest`
 pub record Gives (s : List ℕ) (at n : ℕ) (m m' : Memory) (x : Shape) (rest : List ℕ) (r : Parsed) : Type 0 where
@@ -86,15 +88,21 @@ nothing_read at n empty = record { good = true; at = at; n = n; empty = empty; f
 abbrev pub Changes : (Read → Read) → List ℕ → ℕ → Memory → Memory → Parsed → Parsed → Type 0
 Changes change s n now now' p r = (at : ℕ) (m : Memory) (R : Read) → Stands s at n m now R p → Stands s at n m now' (change R) r
 
--- the same for a repeat, by whether it may be left out and whether it may go round
-abbrev pub Repeats : Bool → Bool → List ℕ → List ℕ → List ℕ → List ℕ → Parsed → Parsed → Type 0
-Repeats skip loop rows more rows' more' p r =
-    (s : List ℕ) (at n : ℕ) (m : Memory) (sets credits : List ℕ) (R : Read) (k : Repeat) → skips k ≡ skip → loops k ≡ loop → is_misbounded k ≡ false → p.good ≡ true → p.at < length s
-    → Stands s at n m (memory rows more sets credits) R p → Stands s at n m (memory rows' more' sets credits) (read (again k R.part) (drop 1 R.rest)) r
+-- the repeat of the rules that it is
+abbrev pub rule_of : Repeating → Repeat
+rule_of Optional = optional
+rule_of Star = star
+rule_of Plus = plus
+
+-- the same for a repeat, at a byte of the text
+abbrev pub Repeats : Repeat → List ℕ → List ℕ → List ℕ → List ℕ → Parsed → Parsed → Type 0
+Repeats k rows more rows' more' p r =
+    (s : List ℕ) (at n : ℕ) (m : Memory) (tables : Tables) (R : Read) → p.good ≡ true → p.at < length s → Stands s at n m (memory rows more tables) R p
+    → Stands s at n m (memory rows' more' tables) (read (again k R.part) (drop 1 R.rest)) r
 
 -- a lettered atom is read: the rows and the links stay, whatever they are
-abbrev pub Letters : List ℕ → ℕ → ℕ → List ℕ → List ℕ → List ℕ → List ℕ → Read → Parsed → Type 0
-Letters s at n sets credits sets' credits' R r = (rows more : List ℕ) → Stands s at n (memory rows more sets credits) (memory rows more sets' credits') R r
+abbrev pub Letters : List ℕ → ℕ → ℕ → Tables → Tables → Read → Parsed → Type 0
+Letters s at n tables tables' R r = (rows more : List ℕ) → Stands s at n (memory rows more tables) (memory rows more tables') R r
 
 -- r is a, and b after it: what ends it is b's, and a fact of an atom is one of both
 pub record Follows (a b r : Parsed) : Type 0 where

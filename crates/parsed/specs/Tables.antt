@@ -1,15 +1,10 @@
--- The tables of letters and of raised credits, which are lent and filled from the left: entry i is position i's.
-use Rattle.std.specs.Prelude.{◌≡◌, List, ◌∷◌, ℕ, ◌≤◌, length, get_or, take}
+-- The tables of letters and of raised credits, which are filled from the left: entry i is position i's.
+use Rattle.std.specs.Prelude.{◌≡◌, List, ◌∷◌, ℕ, ◌≤◌, get_or, take}
 use Rattle.letters.specs.LetterSet.{has_letter}
-use Rattle.set_table.specs.Table.{table_size, set_in}
+use Rattle.set_table.specs.Table.{set_in}
 use Rattle.graph.specs.Built.{credit_in}
 use Rattle.pattern.specs.Parts.{Atom, holds}
 use Rattle.pattern.specs.Grammar.{no_atom}
-
--- how long they are
-pub record Sized (sets credits : List ℕ) : Type 0 where
-  pub sets_are : length sets ≡ table_size
-  pub credits_are : length credits ≡ 61
 
 -- the atom of position i, as it is stored: none for 0 and past 60
 abbrev pub atom_of : List Atom → ℕ → Atom

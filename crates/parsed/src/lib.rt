@@ -2,17 +2,59 @@
 // piece more is read, and where an atom is stored in the tables.
 #![tactic(auto)]
 
-ghost use Rattle.std.specs.Prelude.{◌≡◌, ℕ, ◌≤◌, ◌<◌, min, length, drop};
+ghost use Rattle.std.specs.Prelude.{◌≡◌, [], ℕ, ◌≤◌, ◌<◌, drop};
+ghost use Rattle.pattern.specs.Parts.{skips, loops};
 ghost use Rattle.pattern.specs.Grammar.{read_letter};
-ghost use Rattle.links.specs.Rows.{Room};
-ghost use Rattle.parsed.specs.Tables.{Sized};
-ghost use Rattle.parsed.specs.Parsed.{Memory, Letters, Changes, Repeats, nothing_read, Either, Joins, closed_read};
+ghost use Rattle.parsed.specs.Tables.{Stored};
+ghost use Rattle.parsed.specs.Parsed.{Memory, rule_of, Letters, Changes, Repeats, nothing_read, Either, Joins, closed_read};
 
 // What ends a pattern in `( )`.
 const CLOSE: u8 = b')';
 
 // The rows of the tables, one for each position, and row 0.
 const ROWS: usize = 61;
+
+// The tables that are filled from the left as atoms are read: entry i is position i's.
+pub struct Tables {
+    pub sets: [u64; 183],
+    pub credits: [u8; 61],
+}
+
+impl Tables {
+    // No letters, and the credit 0 for each, which is raised by 9.
+    pub fn new() -> Tables
+        ensures { Stored [] result.sets result.credits }
+    {
+        Tables {
+            sets: set_table::empty(),
+            credits: [9; 61],
+        }
+    }
+}
+
+// What repeats an atom: `?`, `*` or `+`.
+#[derive(Clone, Copy)]
+pub enum Repeat {
+    Optional,
+    Star,
+    Plus,
+}
+
+impl Repeat {
+    // May the atom be left out.
+    fn skips(self) -> bool
+        ensures { result ≡ skips (rule_of self) }
+    {
+        matches!(self, Repeat::Optional | Repeat::Star)
+    }
+
+    // May it go round.
+    fn loops(self) -> bool
+        ensures { result ≡ loops (rule_of self) }
+    {
+        matches!(self, Repeat::Star | Repeat::Plus)
+    }
+}
 
 // A part that was parsed: whether the grammar holds so far, where it goes on, how many positions there are up to there, 61 for more than
 // 60; whether the part can be empty, its firsts and its lasts; whether an atom of it has a reversed range, or no letter; whether
@@ -32,100 +74,108 @@ pub struct Parsed {
     pub doubled: bool,
 }
 
-// Before the first part of a pattern or a branch.
-pub fn nothing(at: usize, n: usize, empty: bool) -> Parsed
-    ensures { result ≡ nothing_read at n empty }
-{
-    Parsed {
-        good: true,
-        at: at,
-        n: n,
-        empty: empty,
-        firsts: 0,
-        lasts: 0,
-        reversed: false,
-        hollow: false,
-        misbounded: false,
-        doubled: false,
+impl Parsed {
+    // Before the first part of a pattern or a branch.
+    pub fn nothing(at: usize, n: usize, empty: bool) -> Parsed
+        ensures { result ≡ nothing_read at n empty }
+    {
+        Parsed {
+            good: true,
+            at,
+            n,
+            empty,
+            firsts: 0,
+            lasts: 0,
+            reversed: false,
+            hollow: false,
+            misbounded: false,
+            doubled: false,
+        }
+    }
+
+    // A branch more.
+    pub fn either(self, next: Parsed) -> Parsed
+        ensures { Either self next result }
+    {
+        Parsed {
+            empty: self.empty | next.empty,
+            firsts: bits::union(self.firsts, next.firsts),
+            lasts: bits::union(self.lasts, next.lasts),
+            reversed: self.reversed | next.reversed,
+            hollow: self.hollow | next.hollow,
+            misbounded: self.misbounded | next.misbounded,
+            doubled: self.doubled | next.doubled,
+            ..next
+        }
+    }
+
+    // A piece more.
+    pub fn join(self, rows: &mut [u64; 61], next: Parsed) -> Parsed
+        ensures { Joins rows.old rows.new self next result }
+    {
+        links::link(rows, self.lasts, next.firsts);
+        let doubled = self.doubled | next.doubled;
+        Parsed {
+            empty: self.empty & next.empty,
+            firsts: links::union_if(self.empty, self.firsts, next.firsts),
+            lasts: links::union_if(next.empty, next.lasts, self.lasts),
+            reversed: self.reversed | next.reversed,
+            hollow: self.hollow | next.hollow,
+            misbounded: self.misbounded | next.misbounded,
+            doubled,
+            ..next
+        }
+    }
+
+    // The `)` after a pattern in `( )`.
+    pub fn closed(self, s: &[u8]) -> Parsed
+        ensures { (n : ℕ) (m : Memory) → Changes closed_read s.now n m m self result }
+    {
+        if places::byte_at(s, self.at) != CLOSE {
+            return Parsed {
+                good: false,
+                ..self
+            };
+        }
+        Parsed {
+            at: self.at + 1,
+            ..self
+        }
+    }
+
+    // The part with its repeat, one byte further.
+    pub fn again(self, rows: &mut [u64; 61], more: &mut [u8; 3721], repeat: Repeat) -> Parsed
+        requires { self.at < 18446744073709551615 }
+        ensures { Repeats (rule_of repeat) rows.old more.old rows.new more.new self result }
+    {
+        let back = links::union_if(repeat.loops(), 0, self.lasts);
+        let second = links::link_again(rows, more, back, self.firsts);
+        Parsed {
+            at: self.at + 1,
+            empty: repeat.skips() | self.empty,
+            doubled: self.doubled | second,
+            ..self
+        }
     }
 }
 
-// A branch more.
-pub fn either(a: Parsed, b: Parsed) -> Parsed
-    ensures { Either a b result }
-{
-    Parsed {
-        good: b.good,
-        at: b.at,
-        n: b.n,
-        empty: a.empty | b.empty,
-        firsts: bits::union(a.firsts, b.firsts),
-        lasts: bits::union(a.lasts, b.lasts),
-        reversed: a.reversed | b.reversed,
-        hollow: a.hollow | b.hollow,
-        misbounded: a.misbounded | b.misbounded,
-        doubled: a.doubled | b.doubled,
-    }
-}
-
-// A piece more.
-pub fn join(rows: &mut [u64; 61], a: Parsed, b: Parsed) -> Parsed
-    requires { length rows.old ≡ 61 }
-    ensures { Joins rows.old rows.new a b result × (length rows.new ≡ 61) }
-{
-    links::link(rows, a.lasts, b.firsts);
-    let doubled = a.doubled | b.doubled;
-    Parsed {
-        good: b.good,
-        at: b.at,
-        n: b.n,
-        empty: a.empty & b.empty,
-        firsts: links::union_if(a.empty, a.firsts, b.firsts),
-        lasts: links::union_if(b.empty, b.lasts, a.lasts),
-        reversed: a.reversed | b.reversed,
-        hollow: a.hollow | b.hollow,
-        misbounded: a.misbounded | b.misbounded,
-        doubled: doubled,
-    }
-}
-
-// The `)` after a pattern in `( )`.
-pub fn closed(s: &[u8], p: Parsed) -> Parsed
-    ensures { (n : ℕ) (m : Memory) → Changes closed_read s.now n m m p result }
-{
-    let mut out = p;
-    let at = p.at;
-    if places::byte_at(s, at) != CLOSE {
-        out.good = false;
-        return out;
-    }
-    out.at = at + 1;
-    out
-}
-
-// How many positions there are, where more than 60 count as 61.
-pub fn cut(n: usize) -> usize
-    ensures { result ≡ min n 61 }
-{
-    if n < 61 { n } else { 61 }
-}
-
-// A lettered atom is a position, its only first and last. Its letters and its credit go to the tables.
-pub fn letter(s: &[u8], at: usize, n: usize, sets: &mut [u64], credits: &mut [u8]) -> Parsed
-    requires { (n ≤ 61) × Sized sets.old credits.old }
-    ensures { Letters s.now at n sets.old credits.old sets.new credits.new (read_letter (drop at s.now)) result }
+// A lettered atom is a position, its only first and last. Its letters and its credit go to the tables. More than 60 positions count
+// as 61.
+pub fn letter(s: &[u8], at: usize, n: usize, tables: &mut Tables) -> Parsed
+    requires { n ≤ 61 }
+    ensures { Letters s.now at n tables.old tables.new (read_letter (drop at s.now)) result }
 {
     let a = atoms::atom(s, at);
     if !a.good {
-        let mut none = nothing(at, n, false);
-        none.good = false;
-        return none;
+        return Parsed {
+            good: false,
+            ..Parsed::nothing(at, n, false)
+        };
     }
-    let set = a.set;
-    let k = cut(n + 1);
+    let k = (n + 1).min(61);
     if k < ROWS {
-        set_table::write(&mut *sets, k, set);
-        credits[k] = a.credit;
+        set_table::write(&mut tables.sets, k, a.set);
+        tables.credits[k] = a.credit;
     }
     let own = links::position(k);
     Parsed {
@@ -140,18 +190,4 @@ pub fn letter(s: &[u8], at: usize, n: usize, sets: &mut [u64], credits: &mut [u8
         misbounded: false,
         doubled: false,
     }
-}
-
-// The part with its repeat, one byte further: whether it may be left out, and whether it may go round.
-pub fn again(p: Parsed, rows: &mut [u64; 61], more: &mut [u8], skips: bool, loops: bool) -> Parsed
-    requires { (p.at < 18446744073709551615) × (length rows.old ≡ 61) × Room more.old }
-    ensures { Repeats skips loops rows.old more.old rows.new more.new p result × (length rows.new ≡ 61) }
-{
-    let mut out = p;
-    let back = links::union_if(loops, 0, p.lasts);
-    let second = links::link_again(rows, more, back, p.firsts);
-    out.at = p.at + 1;
-    out.empty = skips | p.empty;
-    out.doubled = p.doubled | second;
-    out
 }

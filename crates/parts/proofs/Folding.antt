@@ -61,7 +61,7 @@ pieces = record {
   unit = joined_none;
   owns = owns_joined;
   assoc = joined_assoc;
-  Combined = λ m m' a b r. Joins m.rows m'.rows a b r × (m' ≡ memory m'.rows m.more m.sets m.credits);
+  Combined = λ m m' a b r. Joins m.rows m'.rows a b r × (m' ≡ memory m'.rows m.more m.tables);
   follows = λ m m' a b r e. e.0.follows;
   has = λ n m m₁ m₂ m₃ x y a b r ox oy ha hb e. subst (λ (k : Memory). Has n m k (joined_shape x y) r) (sym e.1) (has_joined n m m₁ m₂ x y ox oy a b ha hb m₃.rows r e.0);
 }

@@ -22,6 +22,7 @@ use Rattle.bits.proofs.Laws.{has_none}
 use Rattle.links.specs.Rows.{NoneCounted}
 use Rattle.links.proofs.Counting.{none_linked, counts_alone}
 use Rattle.parsed.specs.declared.Parsed.{Parsed}
+use Rattle.parsed.specs.declared.Tables.{Tables}
 use Rattle.parsed.specs.Tables.{Stored}
 use Rattle.parsed.specs.Parsed.{Shape, Memory, memory, Has, Stands, closed_read, Changes}
 use Rattle.parsed.proofs.Standing.{stands_as}
@@ -46,9 +47,9 @@ moves F rank s at n m m' r d g =
     (v.on, v.within, (let c = v.has.count in omega arith))
 
 -- the same by equal memory and an equal result
-pub parses_as : (F : ℕ → List ℕ → Read) (rank : ℕ) (s : List ℕ) (at n : ℕ) (m : Memory) {rows more sets credits rows' more' sets' credits' : List ℕ} {r r' : Parsed} → rows ≡ rows' → more ≡ more' → sets ≡ sets' → credits ≡ credits' → r ≡ r'
-    → Parses F rank s at n m (memory rows' more' sets' credits') r' → Parses F rank s at n m (memory rows more sets credits) r
-parses_as F rank s at n m d h e f g = subst (λ (x : Memory × Parsed). Parses F rank s at n m x.0 x.1) (sym (λ i. (memory (d i) (h i) (e i) (f i), g i)))
+pub parses_as : (F : ℕ → List ℕ → Read) (rank : ℕ) (s : List ℕ) (at n : ℕ) (m : Memory) {rows more rows' more' : List ℕ} {tables tables' : Tables} {r r' : Parsed} → rows ≡ rows' → more ≡ more' → tables ≡ tables' → r ≡ r'
+    → Parses F rank s at n m (memory rows' more' tables') r' → Parses F rank s at n m (memory rows more tables) r
+parses_as F rank s at n m d h e g = subst (λ (x : Memory × Parsed). Parses F rank s at n m x.0 x.1) (sym (λ i. (memory (d i) (h i) (e i), g i)))
 
 -- ---- an atom: a lettered one, or a pattern in `( )`
 
@@ -97,9 +98,9 @@ bar_within s g n e = next_within s n (omega (arith, eqb-true (peek (drop n s)) (
 
 -- ---- the whole pattern: nothing is before it
 
-pub has_whole : (k : ℕ) (rows more more' sets credits sets' credits' : List ℕ) (x : Shape) (r : Parsed) → Has 0 (memory (replicate k 0) more sets credits) (memory rows more' sets' credits') x r
-    → Stored [] sets credits → NoneCounted more → Whole x rows more' sets' credits' r
-has_whole k rows more more' sets credits sets' credits' x r h st none = record {
+pub has_whole : (k : ℕ) (rows more more' : List ℕ) (tables tables' : Tables) (x : Shape) (r : Parsed) → Has 0 (memory (replicate k 0) more tables) (memory rows more' tables') x r
+    → Stored [] tables.sets tables.credits → NoneCounted more → Whole x rows more' tables'.sets tables'.credits r
+has_whole k rows more more' tables tables' x r h st none = record {
   count = omega (arith, h.count);
   reversed = h.reversed;
   hollow = h.hollow;

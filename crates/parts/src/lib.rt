@@ -6,12 +6,12 @@
 
 ghost use Rattle.std.specs.Prelude.{◌≡◌, ◌&&◌, [], ◌≤◌, drop};
 ghost use Rattle.pattern.specs.Grammar.{goes_on, pattern_from, branch_from};
-ghost use Rattle.links.specs.Rows.{NoneCounted, Room};
-ghost use Rattle.parsed.specs.Tables.{Sized, Stored};
+ghost use Rattle.links.specs.Rows.{NoneCounted};
+ghost use Rattle.parsed.specs.Tables.{Stored};
 ghost use Rattle.parsed.specs.Parsed.{memory};
 ghost use Rattle.parts.specs.Parsing.{Parses, ParsesAll, atom_from, bar_next, Opens};
 
-use parsed::Parsed;
+use parsed::{Parsed, Tables};
 
 // A part, and the rows with its links: row a has what may follow position a, and row 0 is not used.
 #[derive(Clone, Copy)]
@@ -21,12 +21,12 @@ pub struct ParsedRows {
 }
 
 // The pattern that s begins with. The whole of s follows the grammar where this is good and ends at the end of s.
-pub fn parse(s: &[u8], sets: &mut [u64], credits: &mut [u8], more: &mut [u8]) -> ParsedRows
-    requires { Sized sets.old credits.old × Stored [] sets.old credits.old × Room more.old × NoneCounted more.old }
-    ensures { ParsesAll s.now result.rows more.new sets.new credits.new result.part }
+pub fn parse(s: &[u8], tables: &mut Tables, more: &mut [u8; 3721]) -> ParsedRows
+    requires { Stored [] tables.old.sets tables.old.credits × NoneCounted more.old }
+    ensures { ParsesAll s.now result.rows more.new tables.new.sets tables.new.credits result.part }
 {
     let rows = [0u64; 61];
-    pattern(s, 0, 0, rows, sets, credits, more)
+    pattern(s, 0, 0, rows, tables, more)
 }
 
 // One or more branches, parted by `|`.
@@ -36,19 +36,17 @@ fn pattern(
     at: usize,
     n: usize,
     rows: [u64; 61],
-    sets: &mut [u64],
-    credits: &mut [u8],
-    more: &mut [u8],
+    tables: &mut Tables,
+    more: &mut [u8; 3721],
 ) -> ParsedRows
-    requires { (n ≤ 61) × Sized sets.old credits.old × Room more.old }
-    ensures { Parses pattern_from 2 s.now at n (memory rows more.old sets.old credits.old) (memory result.rows more.new sets.new credits.new) result.part }
+    requires { n ≤ 61 }
+    ensures { Parses pattern_from 2 s.now at n (memory rows more.old tables.old) (memory result.rows more.new tables.new) result.part }
 {
     let mut all = rows;
-    let mut so_far = parsed::nothing(at, n, false);
+    let mut so_far = Parsed::nothing(at, n, false);
     loop {
-        let mut b = branch(s, so_far.at, so_far.n, all, sets, credits, more);
-        let next = b.part;
-        so_far = parsed::either(so_far, next);
+        let mut b = branch(s, so_far.at, so_far.n, all, tables, more);
+        so_far = so_far.either(b.part);
         if !is_bar(s, so_far.good, so_far.at) {
             b.part = so_far;
             return b;
@@ -65,26 +63,25 @@ fn branch(
     at: usize,
     n: usize,
     rows: [u64; 61],
-    sets: &mut [u64],
-    credits: &mut [u8],
-    more: &mut [u8],
+    tables: &mut Tables,
+    more: &mut [u8; 3721],
 ) -> ParsedRows
-    requires { (n ≤ 61) × Sized sets.old credits.old × Room more.old }
-    ensures { Parses branch_from 1 s.now at n (memory rows more.old sets.old credits.old) (memory result.rows more.new sets.new credits.new) result.part }
+    requires { n ≤ 61 }
+    ensures { Parses branch_from 1 s.now at n (memory rows more.old tables.old) (memory result.rows more.new tables.new) result.part }
 {
     let mut all = rows;
-    let mut so_far = parsed::nothing(at, n, true);
+    let mut so_far = Parsed::nothing(at, n, true);
     loop {
         let t = so_far.at;
         let atom = if places::byte_at(s, t) == b'(' {
-            let p = piece(s, t, so_far.n, all, sets, credits, more);
+            let p = piece(s, t, so_far.n, all, tables, more);
             all = p.rows;
             p.part
         } else {
-            parsed::letter(s, t, so_far.n, sets, credits)
+            parsed::letter(s, t, so_far.n, tables)
         };
-        let next = repeats::repeat(s, so_far.n, atom, &mut all, sets, credits, more);
-        so_far = parsed::join(&mut all, so_far, next);
+        let next = repeats::repeat(s, so_far.n, atom, &mut all, tables, more);
+        so_far = so_far.join(&mut all, next);
         if !goes_on(s, so_far.good, so_far.at) {
             return ParsedRows {
                 part: so_far,
@@ -101,16 +98,14 @@ fn piece(
     at: usize,
     n: usize,
     rows: [u64; 61],
-    sets: &mut [u64],
-    credits: &mut [u8],
-    more: &mut [u8],
+    tables: &mut Tables,
+    more: &mut [u8; 3721],
 ) -> ParsedRows
-    requires { (n ≤ 61) × Sized sets.old credits.old × Room more.old × Opens s.now at }
-    ensures { Parses atom_from 0 s.now at n (memory rows more.old sets.old credits.old) (memory result.rows more.new sets.new credits.new) result.part }
+    requires { (n ≤ 61) × Opens s.now at }
+    ensures { Parses atom_from 0 s.now at n (memory rows more.old tables.old) (memory result.rows more.new tables.new) result.part }
 {
-    let mut p = pattern(s, at + 1, n, rows, sets, credits, more);
-    let inner = p.part;
-    p.part = parsed::closed(s, inner);
+    let mut p = pattern(s, at + 1, n, rows, tables, more);
+    p.part = p.part.closed(s);
     p
 }
 
@@ -125,6 +120,5 @@ fn is_bar(s: &[u8], good: bool, at: usize) -> bool
 fn goes_on(s: &[u8], good: bool, at: usize) -> bool
     ensures { result ≡ (good && goes_on (drop at s.now)) }
 {
-    let b = places::byte_at(s, at);
-    good & !((s.len() <= at) | ((b == b'|') | (b == b')')))
+    good & !((s.len() <= at) | matches!(places::byte_at(s, at), b'|' | b')'))
 }

@@ -24,6 +24,7 @@ use Rattle.bounds.specs.declared.IntervalRead.{IntervalRead}
 use Rattle.bounds.specs.Bounds.{bounds_of, ReadsInterval}
 use Rattle.links.specs.Rows.{Adds, Counts}
 use Rattle.parsed.specs.declared.Parsed.{Parsed}
+use Rattle.parsed.specs.declared.Tables.{Tables}
 use Rattle.parsed.specs.Tables.{Stored}
 use Rattle.parsed.specs.Parsed.{Shape, shape_of, Memory, memory, Keeps, Has, Stands}
 use Rattle.parsed.proofs.Shapes.{owns_part}
@@ -39,14 +40,14 @@ use Rattle.repeats.proofs.Tables.{with, stored_copies}
 pub placed : (n : ℕ) (m m' : Memory) (p : Part) (r : Parsed) → n ≤ 61 → Has n m m' (shape_of p) r → Placed n r
 placed n m m' p r low h = let c = h.count in let s = some_position p in record { on = omega arith; cut = omega arith; some = λ l. omega arith }
 
--- how many copies there are
-pub many : (b : Bounds) → out_of_bounds b ≡ false → (0 < how_many b) × (how_many b ≤ 255)
-many b e =
-    let fine = in_bounds b e in
+-- how many copies there are, where a test says that the bounds are not named
+pub many : (b : Bounds) (k : ℕ) (named : Bool) → k ≡ how_many b → named ≡ out_of_bounds b → named ≡ false → (0 < k) × (k ≤ 255)
+many b k named is test e =
+    let fine = in_bounds b (sym test ∙ e) in
     let low = fine.low in
     by_test b.endless
-    (λ t. let is = if_yes (max b.lower 1) b.upper b.endless t in (omega arith, omega arith))
-    (λ t. let is = if_no (max b.lower 1) b.upper b.endless t in let some = fine.some t in let high = fine.high t in (omega arith, omega arith))
+    (λ t. let number = if_yes (max b.lower 1) b.upper b.endless t in (omega arith, omega arith))
+    (λ t. let number = if_no (max b.lower 1) b.upper b.endless t in let some = fine.some t in let high = fine.high t in (omega arith, omega arith))
 
 -- is there no room for the copies
 module _ (n : ℕ) (p : Parsed) (copies : ℕ) (at : Placed n p) (some : 0 < copies) where
@@ -155,7 +156,7 @@ module _ (n : ℕ) (m now : Memory) (p : Parsed) (q : Part) (h : Has n m now (sh
         record { count = omega (arith, size); reversed = turned; hollow = hollowed; misbounded = named; keeps = λ f. absurd (omega (arith, size, l, f)); stores = λ f. absurd (omega (arith, size, l, f)) }
 
     -- room for them
-    module _ (w : ℕ) (rows' more' sets' credits' : List ℕ) (r : Parsed) (room : n + number * w ≤ 60) (wide : p.n ≡ n + w) (long : length now.credits ≡ 61) (s : Repeats (n + 1) (n + 1 + k * w) w now.sets sets') (c : Copies.Repeats Copies.Same (n + 1) (n + 1 + k * w) w now.credits credits') (ch : Chains w number b.lower b.endless now.rows now.more rows' more' (changed p good at p.n p.misbounded) r) where
+    module _ (w : ℕ) (rows' more' : List ℕ) (tables' : Tables) (r : Parsed) (room : n + number * w ≤ 60) (wide : p.n ≡ n + w) (s : Repeats (n + 1) (n + 1 + k * w) w now.tables.sets tables'.sets) (c : Copies.Repeats Copies.Same (n + 1) (n + 1 + k * w) w now.tables.credits tables'.credits) (ch : Chains w number b.lower b.endless now.rows now.more rows' more' (changed p good at p.n p.misbounded) r) where
       few : n + suc k * w ≤ 60
       few = subst (λ (v : ℕ). n + v * w ≤ 60) with_first room
 
@@ -165,19 +166,19 @@ module _ (n : ℕ) (m now : Memory) (p : Parsed) (q : Part) (h : Has n m now (sh
       first_few : n + positions q ≤ 60
       first_few = let o = suc-mul k w in omega (arith, few, width)
 
-      stored : (al : List Atom) → length al ≡ n → Stored al m.sets m.credits → Stored (al ++ (chained q k).atoms) sets' credits'
+      stored : (al : List Atom) → length al ≡ n → Stored al m.tables.sets m.tables.credits → Stored (al ++ (chained q k).atoms) tables'.sets tables'.credits
       stored al l st =
-          subst (λ (x : List Atom). Stored x sets' credits') (with_chained q al k)
-          (stored_copies al (atoms q) k now.sets now.credits sets' credits' (some_position q) (subst (λ (u : ℕ × ℕ). u.0 + suc k * u.1 ≤ 60) turn few) long
-          (subst (λ (u : ℕ × ℕ). Repeats (u.0 + 1) (u.0 + 1 + k * u.1) u.1 now.sets sets') turn s)
-          (subst (λ (u : ℕ × ℕ). Copies.Repeats Copies.Same (u.0 + 1) (u.0 + 1 + k * u.1) u.1 now.credits credits') turn c) (h.stores first_few al l st))
+          subst (λ (x : List Atom). Stored x tables'.sets tables'.credits) (with_chained q al k)
+          (stored_copies al (atoms q) k now.tables.sets now.tables.credits tables'.sets tables'.credits (some_position q) (subst (λ (u : ℕ × ℕ). u.0 + suc k * u.1 ≤ 60) turn few)
+          (subst (λ (u : ℕ × ℕ). Repeats (u.0 + 1) (u.0 + 1 + k * u.1) u.1 now.tables.sets tables'.sets) turn s)
+          (subst (λ (u : ℕ × ℕ). Copies.Repeats Copies.Same (u.0 + 1) (u.0 + 1 + k * u.1) u.1 now.tables.credits tables'.credits) turn c) (h.stores first_few al l st))
         where
           turn : ◌≡◌ {A = ℕ × ℕ} (n, w) (length al, length (atoms q))
           turn t = (sym l t, sym width t)
 
-      pub has_few : Has n m (memory rows' more' sets' credits') (shape_of (written_out b q)) r
+      pub has_few : Has n m (memory rows' more' tables') (shape_of (written_out b q)) r
       has_few =
-          as_written (memory rows' more' sets' credits') r
+          as_written (memory rows' more' tables') r
           record {
             count = let o = suc-mul k w in omega (arith, ch.count, size, ap (λ (v : ℕ). suc k * v) width, wide, few);
             reversed = ch.reversed ∙ turned;
@@ -185,8 +186,8 @@ module _ (n : ℕ) (m now : Memory) (p : Parsed) (q : Part) (h : Has n m now (sh
             misbounded = ch.misbounded ∙ named;
             keeps = λ f c.
                 let old = h.keeps first_few c in
-                subst (λ (x : Shape). Keeps n m (memory rows' more' sets' credits') x r) (written q b k e is)
-                (ch.keeps n m sets' credits' q b e are refl refl width wide c
+                subst (λ (x : Shape). Keeps n m (memory rows' more' tables') x r) (written q b k e is)
+                (ch.keeps n m tables' q b e are refl refl width wide c
                 record { empty = old.empty; firsts = old.firsts; lasts = old.lasts; adds = old.adds; counts = old.counts; none = old.none });
             stores = λ f. stored;
           }

@@ -92,10 +92,10 @@ record Fits (f : LetterSet × ℕ) (a : Atom) : Type 0 where
 abbrev shown : List ℕ → List ℕ → ℕ → LetterSet × ℕ
 shown t u i = (set_in t i, get_or u i 9)
 
-pub stored_copies : (al xs : List Atom) (k : ℕ) (sets credits sets' credits' : List ℕ) → 0 < length xs → length al + suc k * length xs ≤ 60 → length credits ≡ 61
+pub stored_copies : (al xs : List Atom) (k : ℕ) (sets credits sets' credits' : List ℕ) → 0 < length xs → length al + suc k * length xs ≤ 60
     → Repeats (length al + 1) (length al + 1 + k * length xs) (length xs) sets sets' → Copies.Repeats Copies.Same (length al + 1) (length al + 1 + k * length xs) (length xs) credits credits'
     → Stored (al ++ xs) sets credits → Stored (with al xs (suc k)) sets' credits'
-stored_copies al xs k sets credits sets' credits' some few long s c st = record { has = λ i. (fits i).has; credit = λ i. (fits i).credit; small = λ i. (fits i).small }
+stored_copies al xs k sets credits sets' credits' some few s c st = record { has = λ i. (fits i).has; credit = λ i. (fits i).credit; small = λ i. (fits i).small }
   where
     fits : (i : ℕ) → Fits (shown sets' credits' i) (atom_of (with al xs (suc k)) i)
     fits =

@@ -4,10 +4,7 @@ use mathlib.Core.Bool.{true≢false}
 use Rattle.chains.proofs.next_rows.Goals as goal
 
 pub returns-then-doubled : goal.returns-then-doubled
-returns-then-doubled c =
-    let numbers = c.entries.ensures in
-    (record { copied = c.rows.ensures; numbers = λ d. numbers; none = λ d. absurd (true≢false (sym c.if-doubled.true ∙ d)); size = numbers.size }, c.rows.ensures.size ∙ c.requires.3)
+returns-then-doubled c = record { copied = c.rows.ensures; numbers = λ d. c.entries.ensures; none = λ d. absurd (true≢false (sym c.if-doubled.true ∙ d)) }
 
 pub returns-else-doubled : goal.returns-else-doubled
-returns-else-doubled c =
-    (record { copied = c.rows.ensures; numbers = λ d. absurd (true≢false (sym d ∙ c.if-doubled.false)); none = λ d. refl; size = refl }, c.rows.ensures.size ∙ c.requires.3)
+returns-else-doubled c = record { copied = c.rows.ensures; numbers = λ d. absurd (true≢false (sym d ∙ c.if-doubled.false)); none = λ d. refl }

@@ -1,7 +1,6 @@
 -- In both loops something is read so far. The measure is three for each byte left, and a rank, so that it falls where a callee begins
 -- at the same place. Assumes nothing.
-use Rattle.std.proofs.Common.{◌≡◌, ◌+◌, ◌-◌, ◌*◌, length}
-use Rattle.parsed.specs.Tables.{Sized}
+use Rattle.std.proofs.Common.{◌+◌, ◌-◌, ◌*◌, length}
 use Rattle.parsed.specs.Parsed.{memory}
 use Rattle.parts.proofs.Folding.{pieces, branches, Sofar}
 use Rattle.parts.proofs.+branch_pattern_piece.Given as goal
@@ -16,13 +15,13 @@ abbrev pub decreases-piece : goal.decreases-piece
 decreases-piece l = 3 * (length l.s.now - l.at)
 
 abbrev pub invariant-branch-loop-all : goal.invariant-branch-loop-all
-invariant-branch-loop-all l = (length l.all ≡ 61) × Sized l.sets l.credits × Sofar pieces l.s l.at l.n (memory l.initial.all l.initial.more l.initial.sets l.initial.credits) (memory l.all l.more l.sets l.credits) l.so_far × (length l.more ≡ length l.initial.more)
+invariant-branch-loop-all l = Sofar pieces l.s l.at l.n (memory l.initial.all l.initial.more l.initial.tables) (memory l.all l.more l.tables) l.so_far
 
 abbrev pub decreases-branch-loop-all : goal.decreases-branch-loop-all
 decreases-branch-loop-all l = length l.s - l.so_far.at
 
 abbrev pub invariant-pattern-loop-b : goal.invariant-pattern-loop-b
-invariant-pattern-loop-b l = (length l.all ≡ 61) × Sized l.sets l.credits × Sofar branches l.s l.at l.n (memory l.initial.all l.initial.more l.initial.sets l.initial.credits) (memory l.all l.more l.sets l.credits) l.so_far × (length l.more ≡ length l.initial.more)
+invariant-pattern-loop-b l = Sofar branches l.s l.at l.n (memory l.initial.all l.initial.more l.initial.tables) (memory l.all l.more l.tables) l.so_far
 
 abbrev pub decreases-pattern-loop-b : goal.decreases-pattern-loop-b
 decreases-pattern-loop-b l = length l.s - l.so_far.at

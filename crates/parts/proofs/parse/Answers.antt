@@ -6,7 +6,7 @@ use Rattle.parts.proofs.Parsing.{has_whole}
 use Rattle.parts.proofs.parse.Goals as goal
 
 pub pattern-requires : goal.pattern-requires
-pattern-requires c = let pre = c.requires in (omega arith, pre.0, pre.2)
+pattern-requires c = omega arith
 
 pub returns : goal.returns
 returns c =
@@ -16,5 +16,5 @@ returns c =
       same = w.same;
       within = λ g. (w.gives g).within;
       rest = λ g. (w.gives g).goes;
-      has = λ g. has_whole 61 _ _ _ _ _ _ _ _ _ (w.gives g).has c.requires.1 c.requires.3;
+      has = λ g. has_whole 61 _ _ _ _ _ _ _ (w.gives g).has c.requires.0 c.requires.1;
     }
