@@ -15,6 +15,7 @@ const CLOSE: u8 = b')';
 const ROWS: usize = 61;
 
 // The tables that are filled from the left as atoms are read: entry i is position i's.
+#[derive(Drop)]
 pub struct Tables {
     pub sets: [u64; 183],
     pub credits: [u8; 61],

@@ -1,12 +1,12 @@
 // Reading a pattern: its refusal, or the built pattern. `read` takes any bytes.
 #![tactic(auto)]
 
-ghost use Rattle.std.specs.Prelude.{◌≡◌, ◌≤◌, length};
-ghost use Rattle.set_table.specs.Table.{table_size};
-ghost use Rattle.links.specs.Rows.{NoneCounted, Room};
+ghost use Rattle.std.specs.Prelude.{◌≡◌, ◌≤◌};
+ghost use Rattle.links.specs.Rows.{NoneCounted};
 ghost use Rattle.reader.specs.Read.{Reads, Builds};
 
 use graph::Built;
+use parsed::Tables;
 use parts::ParsedRows;
 use pattern::Refusal;
 
@@ -18,8 +18,8 @@ const MOST: usize = 60;
 // The first refusal, of those of a pattern, that applies to s, or the pattern that it is, built, and in `more`, which has 0 in each
 // entry before, the links beyond the first: entry 61 * u + i is how many of them lead from state u to position i. Where the built
 // pattern is not `doubled` there are none. At a refusal `more` means nothing.
-pub fn read(s: &[u8], more: &mut [u8]) -> Result<Built, Refusal>
-    requires { Room more.old × NoneCounted more.old }
+pub fn read(s: &[u8], more: &mut [u8; 3721]) -> Result<Built, Refusal>
+    requires { NoneCounted more.old }
     ensures { Reads s.now more.new result }
 {
     if s.len() > LONGEST {
@@ -28,9 +28,8 @@ pub fn read(s: &[u8], more: &mut [u8]) -> Result<Built, Refusal>
     if !alphabet::all_letters(s) {
         return Err(Refusal::PatternNotLetters);
     }
-    let mut sets = set_table::empty();
-    let mut credits = [9u8; 61];
-    let p = parts::parse(s, &mut sets, &mut credits, more);
+    let mut tables = Tables::new();
+    let p = parts::parse(s, &mut tables, more);
     let part = p.part;
     if !(part.good && part.at == s.len()) {
         return Err(Refusal::BrokenGrammar);
@@ -47,15 +46,15 @@ pub fn read(s: &[u8], more: &mut [u8]) -> Result<Built, Refusal>
     if part.n > MOST {
         return Err(Refusal::ManyPositions);
     }
-    let built = accepted(p, &sets, credits);
+    let built = accepted(p, &tables);
     Ok(built)
 }
 
 // A pattern that nothing refuses, built of its links and of the tables. The state 0, before any letter, gets its row, the firsts, and
 // is a last where the pattern can be empty.
-fn accepted(p: ParsedRows, sets: &[u64], credits: [u8; 61]) -> Built
-    requires { (length sets.now ≡ table_size) × (p.part.n ≤ 60) }
-    ensures { Builds p sets.now credits result }
+fn accepted(p: ParsedRows, tables: &Tables) -> Built
+    requires { p.part.n ≤ 60 }
+    ensures { Builds p tables.now.sets tables.now.credits result }
 {
     let part = p.part;
     let mut follow = p.rows;
@@ -65,7 +64,7 @@ fn accepted(p: ParsedRows, sets: &[u64], credits: [u8; 61]) -> Built
         follow,
         doubled: part.doubled,
         lasts: bits::with_if(part.lasts, 0, part.empty),
-        letters: set_table::sets(sets, part.n),
-        credits,
+        letters: set_table::sets(&tables.sets, part.n),
+        credits: tables.credits,
     }
 }

@@ -12,6 +12,6 @@ returns c =
     let start = c.args in
     let rows : length start.p.rows ≡ 61 = search rules in
     record {
-      graph = built_shown start.p start.sets.now start.credits c.sets.result c.with_if.result (omega arith) c.sets.ensures c.with_if.ensures;
+      graph = built_shown start.p start.tables.now.sets start.tables.now.credits c.sets.result c.with_if.result (omega arith) c.sets.ensures c.with_if.ensures;
       doubled = refl;
     }

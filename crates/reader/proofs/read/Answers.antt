@@ -17,7 +17,6 @@ use Rattle.alphabet.specs.Alphabet.{all_letters}
 use Rattle.parsed.specs.Parsed.{shape_of}
 use Rattle.parsed.specs.declared.Parsed.{Parsed}
 use Rattle.parts.specs.Parsing.{Whole, ParsesAll}
-use Rattle.parsed.proofs.Storing.{none_stored}
 use Rattle.reader.proofs.Depth.{links_few}
 use Rattle.reader.proofs.Building.{stored_bounded, single_shown}
 use Rattle.reader.proofs.Refusals.{tests, Passes, fails_more, refuses, no_refusal, accepts, whole_pattern}
@@ -73,9 +72,7 @@ returns-then-not-all_letters c =
     refuses s 1 _ _ refl (le-ltb 512 (length s) c.if-s-gt-LONGEST.false, tt) (ap not (sym c.all_letters.ensures ∙ c.if-not-all_letters.true))
 
 pub parse-p-requires : goal.parse-p-requires
-parse-p-requires c =
-    let empty = c.empty-sets.ensures in
-    (record { sets_are = empty.0; credits_are = refl }, none_stored c.empty-sets.result empty.1, c.requires.0, c.requires.1)
+parse-p-requires c = (c.new-tables.ensures, c.requires)
 
 pub returns-then-not-part-s : goal.returns-then-not-part-s
 returns-then-not-part-s c =
