@@ -6,12 +6,11 @@ use Prim.Native.Nat.{ℕ, ◌+◌, ◌≤◌, ◌<◌}
 use native.Mathlib.Omega.{arith}
 use borrow.Author.Tests.{eqb-true, eq-eqb}
 use lib.Dec.{eqb}
-use lib.ListN.{length}
 use Rattle.basics.proofs.Tests.{same_test, by_equal}
 use Rattle.bits.specs.Bits.{has_bit}
 use Rattle.graph.specs.Graph.{Graph, is_position}
 use Rattle.graph.proofs.Walks.{position_of, position_is}
-use Rattle.verdict.specs.Verdict.{parts_to, is_pivot, first_pivot}
+use Rattle.verdict.specs.Verdict.{parts_to, is_pivot}
 use Rattle.verdict.proofs.Pivots.{pivot_none, pivot_is_first}
 use Rattle.search.specs.declared.Goal.{Goal}
 use Rattle.search.specs.declared.Search.{Search}

@@ -1,21 +1,20 @@
 -- A search goes on: a node is taken up, the head of the queue is passed, a search is begun; and once it is over, each node that a
 -- chain of steps leads to is taken up. Of the queue's nodes no two are one, so there are at most 1891. Assumes nothing.
 use mathlib.Core.Path.{◌≡◌, refl, sym, ap, ap₂, ◌∙◌, subst}
-use mathlib.Core.Logic.{⊎_elim, inl}
+use mathlib.Core.Logic.{⊎_elim}
 use mathlib.Core.Bool.{Bool, true, false, not, ◌&&◌, ◌||◌, true≢false}
 use mathlib.Core.List.{List, [], ◌∷◌}
 use Prim.Native.Nat.{ℕ, zero, suc, ◌+◌, ◌-◌, ◌*◌, ◌/◌, ◌%◌, ◌^◌, ◌≤◌, ◌<◌}
 use native.Mathlib.Omega.{arith}
-use borrow.Author.Tests.{lt-ltb, le-ltb, eq-eqb, ne_eqb, eqb-true}
+use borrow.Author.Tests.{lt-ltb, le-ltb, eq-eqb, eqb-true}
 use lib.Dec.{eqb, ltb}
 use Rattle.std.specs.Prelude.{None}
-use lib.ListN.{get_or, set, length, take, length-set, replicate}
+use lib.ListN.{get_or, set, length, take, length-set}
 use lib.Seq.{get_or-set_same, get_or-set_other, get_or-take, length-take-le}
 use Rattle.basics.specs.Lists.{end_of, Chain}
 use Rattle.basics.proofs.Tests.{if_yes, if_no, or_left, or_right, or_cases, by_equal}
-use Rattle.basics.proofs.Lists.{zeros, each_at, apart_at, pigeon}
+use Rattle.basics.proofs.Lists.{each_at, apart_at, pigeon}
 use Rattle.bits.specs.Bits.{has_bit}
-use Rattle.bits.proofs.Laws.{has_none}
 use Rattle.verdict.proofs.Chains.{Way}
 use Rattle.search.specs.declared.Goal.{Goal}
 use Rattle.search.specs.declared.Search.{Search}

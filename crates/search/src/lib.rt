@@ -6,7 +6,7 @@ ghost use Rattle.std.specs.Prelude.{◌≡◌, ℕ, ◌≤◌, ◌<◌, length};
 ghost use Rattle.graph.specs.Graph.{Graph};
 ghost use Rattle.nodes.specs.declared.Steps.{Steps};
 ghost use Rattle.nodes.specs.Nodes.{Fits, number_of};
-ghost use Rattle.search.specs.Search.{enqueue, is_goal, SoundSearch, Begun, Visited, Searched, IsFirstPivot};
+ghost use Rattle.search.specs.Search.{back_of, enqueue, is_goal, SoundSearch, Begun, Visited, Searched, IsFirstPivot};
 ghost use Rattle.shares.specs.Tables.{Tables};
 
 use nodes::{Node, Seen, Steps};
@@ -33,7 +33,15 @@ impl Goal {
 
 // The lent numbers: at i the i-th node taken up, and at BACK + i the queue number of the node that it was taken up from. No two
 // nodes are one and there are 1891 at most, so 4,096 numbers are enough, and what they held before is never read.
-pub const BACK: usize = 2048;
+const BACK: usize = 2048;
+
+// The queue number of the node that the i-th was taken up from.
+pub fn before(scratch: &[u16], i: usize) -> usize
+    requires { (4096 ≤ length scratch.now) × (i < 2048) }
+    ensures { result ≡ back_of scratch.now i }
+{
+    scratch[BACK + i] as usize
+}
 
 // The search from a state to a goal: the queue number of the first that is found.
 pub fn to_goal(steps: &Steps, scratch: &mut [u16], goal: Goal, start: usize) -> Option<usize>

@@ -122,6 +122,10 @@ module _ {sets : List LetterSet} {s e o : List ℕ} {i base n j k : ℕ} (w : Wr
         text = w.text ∙ ap (λ (x : ℕ). take x e ++ (map (letter_at sets) w.nodes ++ drop (base + n) e)) here;
       }
 
+-- the place is that which the program goes to
+pub write_back : {sets : List LetterSet} {s e o : List ℕ} {i base n j j' k : ℕ} → j ≡ j' → Writing sets s e o i base n j k → Writing sets s e o i base n j' k
+write_back {sets} {s} {e} {o} {i} {base} {n} {k = k} is w = subst (λ (j : ℕ). Writing sets s e o i base n j k) is w
+
 -- ---- the nodes on the way
 
 -- y is in the queue after the j-th and up to the i-th

@@ -39,7 +39,7 @@ fn steps_to(scratch: &[u16], i: usize) -> usize
     let mut n = 0;
     while 0 < j {
         n += 1;
-        j = scratch[search::BACK + j] as usize;
+        j = search::before(scratch, j);
     }
     n
 }
@@ -61,7 +61,7 @@ fn trace(
     while 0 < at {
         k -= 1;
         evidence[k] = letter(sets, scratch[at]);
-        at = scratch[search::BACK + at] as usize;
+        at = search::before(scratch, at);
     }
 }
 

@@ -2,8 +2,8 @@
 use mathlib.Core.Path.{refl, sym, subst, ◌∙◌}
 use native.Mathlib.Omega.{arith}
 use Rattle.search.specs.Search.{IsFirstPivot}
-use Rattle.search.proofs.Visiting.{search_first, search_next, search_found, search_over}
-use Rattle.search.proofs.Pivoting.{start_no_goal, none_yet, none_more, pivot_first, none_first}
+use Rattle.search.proofs.Visiting.{search_first, search_found, search_over}
+use Rattle.search.proofs.Pivoting.{start_no_goal, none_more, pivot_first, none_first}
 use Rattle.search.proofs.first_pivot.Goals as goal
 
 pub loop-node-init : goal.loop-node-init

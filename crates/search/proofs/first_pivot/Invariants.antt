@@ -1,5 +1,5 @@
 -- The outer loop has passed positions that are no pivots; the inner one is a search from q for both paths back at q. Assumes nothing.
-use Rattle.std.proofs.Common.{◌-◌, ◌≡◌, ◌≤◌, length, None}
+use Rattle.std.proofs.Common.{◌-◌, ◌≡◌, length, None}
 use Rattle.search.specs.Search.{Searching}
 use Rattle.search.proofs.Pivoting.{NoneBelow}
 use Rattle.search.proofs.first_pivot.Given as goal

@@ -1,6 +1,6 @@
 -- A search under way stays one with each visit. Assumes nothing.
 use mathlib.Core.Path.{refl, sym, ◌∙◌}
-use Rattle.search.proofs.Visiting.{search_first, search_next, search_found, search_over, begun_found, visit_less}
+use Rattle.search.proofs.Visiting.{search_first, search_over, begun_found}
 use Rattle.search.proofs.Found.{none_found}
 use Rattle.search.proofs.to_goal.Goals as goal
 

@@ -1,9 +1,10 @@
 -- Each turn writes the letter of the node at hand before those written, and goes one step back. Assumes nothing.
-use Prim.Native.Nat.{◌+◌, ◌≤◌, ◌<◌}
+use mathlib.Core.Path.{sym}
+use Prim.Native.Nat.{◌≤◌, ◌<◌}
 use native.Mathlib.Omega.{arith}
 use lib.ListN.{length}
 use Rattle.search.specs.Search.{back_of}
-use Rattle.texts.proofs.Tracing.{write_start, write_room, write_next, write_end}
+use Rattle.texts.proofs.Tracing.{write_back, write_start, write_room, write_next, write_end}
 use Rattle.texts.proofs.trace.Goals as goal
 
 pub loop-at-init : goal.loop-at-init
@@ -29,29 +30,18 @@ pub bounds-evidence-k : goal.bounds-evidence-k
 bounds-evidence-k c =
     let room : (1 ≤ c.loop-at.k) × (c.loop-at.k ≤ length c.loop-at.evidence) = write_room c.loop-at.invariant c.loop-at-test.true in omega (arith, room)
 
-pub overflow_add-at : goal.overflow_add-at
-overflow_add-at c =
-    let low : c.loop-at.at < 2048 = omega (arith, c.loop-at.invariant.low, c.requires.1.few) in omega (arith, low)
-
-pub offset_bounds-scratch-at-in-loop-at : goal.offset_bounds-scratch-at-in-loop-at
-offset_bounds-scratch-at-in-loop-at c =
-    let low : c.loop-at.at < 2048 = omega (arith, c.loop-at.invariant.low, c.requires.1.few) in omega (arith, low)
-
-pub bounds-scratch-at-in-loop-at : goal.bounds-scratch-at-in-loop-at
-bounds-scratch-at-in-loop-at c =
-    let low : c.loop-at.at < 2048 = omega (arith, c.loop-at.invariant.low, c.requires.1.few) in omega (arith, low, c.requires.1.long)
-
-pub overflow_cast-at : goal.overflow_cast-at
-overflow_cast-at c = omega (arith, c.type_inv.scratch (2048 + c.loop-at.at))
+pub before-at-requires : goal.before-at-requires
+before-at-requires c = (c.requires.1.long, omega (arith, c.loop-at.invariant.low, c.requires.1.few))
 
 pub loop-at-smaller : goal.loop-at-smaller
 loop-at-smaller c =
-    let back : back_of c.args.scratch.now c.loop-at.at < c.loop-at.at = c.requires.1.lower c.loop-at.at c.loop-at-test.true (omega (arith, c.loop-at.invariant.low)) in back
+    omega (arith, c.before-at.ensures, c.requires.1.lower c.loop-at.at c.loop-at-test.true (omega (arith, c.loop-at.invariant.low)))
 
 pub loop-at-preserved : goal.loop-at-preserved
 loop-at-preserved c =
-    let back : back_of c.args.scratch.now c.loop-at.at < c.loop-at.at = c.requires.1.lower c.loop-at.at c.loop-at-test.true (omega (arith, c.loop-at.invariant.low)) in
-    write_next c.loop-at.invariant c.loop-at-test.true (back) c.letter.ensures
+    let at = c.loop-at in
+    let back : back_of c.args.scratch.now at.at < at.at = c.requires.1.lower at.at c.loop-at-test.true (omega (arith, at.invariant.low)) in
+    write_back (sym c.before-at.ensures) (write_next at.invariant c.loop-at-test.true back c.letter.ensures)
 
 pub shape_of-evidence : goal.shape_of-evidence
 shape_of-evidence c = c.loop-at.invariant.same
