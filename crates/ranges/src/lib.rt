@@ -44,16 +44,11 @@ pub fn only(code: u8) -> LetterSet
 fn slots_below(code: usize) -> usize
     ensures { (i : ℕ) → i < 192 → ltb i result ≡ ltb (code_at i) code }
 {
-    if code < FIRST {
-        return 0;
+    match code {
+        0..128 => code.saturating_sub(FIRST),
+        128..160 => 96,
+        _ => code - 64,
     }
-    if code < 128 {
-        return code - 32;
-    }
-    if code < 160 {
-        return 96;
-    }
-    code - 64
 }
 
 // The slots from `from` on that are below `to`, as bits of the word that holds the 64 slots from base on.
@@ -67,26 +62,15 @@ fn word(from: usize, to: usize, base: usize) -> u64
 fn cut(slot: usize, base: usize) -> usize
     ensures { (result ≤ 64) × ((j : ℕ) → j < 64 → ltb j result ≡ ltb (base + j) slot) }
 {
-    if slot <= base {
-        return 0;
-    }
-    let n = slot - base;
-    if n < 64 {
-        return n;
-    }
-    64
+    slot.saturating_sub(base).min(64)
 }
 
 // The slot alone, as a bit of the word that holds the 64 slots from base on: none where it is another word's.
 fn bit(slot: usize, base: usize) -> u64
     ensures { (j : ℕ) → j < 64 → has_bit result j ≡ eqb slot (base + j) }
 {
-    if slot < base {
-        return 0;
+    match slot.checked_sub(base) {
+        Some(n) if n < 64 => bits::only(n),
+        _ => 0,
     }
-    let n = slot - base;
-    if n < 64 {
-        return bits::only(n);
-    }
-    0
 }

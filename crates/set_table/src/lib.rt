@@ -38,17 +38,13 @@ pub fn sets(table: &[u64], n: usize) -> [LetterSet; 61]
     requires { (length table.now ≡ table_size) × (n ≤ 60) }
     ensures { (i c : ℕ) → has_letter (set_at result i) c ≡ (leb i n && has_letter (set_in table.now i) c) }
 {
-    let none = LetterSet::empty();
-    let mut out = [none; 61];
-    let mut i = 0;
-    while i <= n {
-        let s = LetterSet {
+    let mut out = [LetterSet::empty(); 61];
+    for i in 0..n + 1 {
+        out[i] = LetterSet {
             low: table[3 * i],
             middle: table[3 * i + 1],
             high: table[3 * i + 2],
         };
-        out[i] = s;
-        i += 1;
     }
     out
 }
