@@ -1,20 +1,19 @@
 -- The laws of has_bit, one for each operation of the machine, at every place. The idea: a number is its half, doubled,
--- and its lowest digit, so that each law goes by recursion on the place. Assumes nothing.
+-- and its lowest digit, so that a law that the library does not have goes by recursion on the place. Assumes nothing.
 use mathlib.Core.Path.{◌≡◌, refl, sym, ap, ap₂, ◌∙◌, subst}
 use mathlib.Core.Logic.{⊎_elim}
 use mathlib.Core.Bool.{Bool, true, false, not, ◌&&◌, ◌||◌, and-true, and_self, and_comm, true≢false}
 use Prim.Native.Nat.{ℕ, zero, suc, ◌+◌, ◌-◌, ◌*◌, ◌/◌, ◌%◌, ◌^◌, ◌≤◌, ◌<◌, min, max}
-use native.Mathlib.Nat.{add-zero, sub-zero, mul-one, mul_assoc, div-le_self, lt-div-mul-add, one-mul, mod-eq_of_lt, div-one, mod-lt, pow-suc, le_of_suc-le-suc, not-suc-le-zero, lt_of_le_of_lt}
+use native.Mathlib.Nat.{add-zero, sub-zero, mul-one, mul_assoc, div-le_self, lt-div-mul-add, one-mul, mod-eq_of_lt, div-one, pow-suc, le_of_suc-le-suc, not-suc-le-zero, lt_of_le_of_lt}
 use native.Mathlib.Omega.{arith}
-use native.Mathlib.Numerals.{one-add}
 use borrow.Author.Tests.{lt-ltb, eq-eqb}
 use lib.Dec.{eqb, ltb, eqb-suc-suc, eqb-zero-suc, eqb-suc-zero, leb, leb-zero, leb-suc-zero, leb-suc-suc}
 use lib.Pow.{pow_pos, pow-lt, shr-shr}
-use lib.Bits.{bit_and, bit_or, bit_xor, and_step, or_step, and_mask}
+use lib.Bits.{bit_and, bit_or, bit_xor, and_mask}
 use lib.Count.{count_trailing_zeros, under}
 use Rattle.std.specs.Prelude.{if◌then◌else◌}
 use Rattle.std.specs.Int.{bit_at}
-use Rattle.std.proofs.lemmas.Nat.Bits.{bit_at-lt, bit_at_xor}
+use Rattle.std.proofs.lemmas.Nat.Bits.{bit_at_lowest, bit_at-suc, bit_at-zero, bit_at-lt, bit_at_and, bit_at_or, bit_at_xor, bit_at_above, same_from_bits_below}
 use Rattle.basics.proofs.Tests.{le_or_lt}
 use Rattle.bits.specs.Bits.{has_bit, Least}
 
@@ -26,19 +25,28 @@ has_0 m = ap (λ (x : ℕ). eqb (x % 2) 1) (div-one m)
 
 has_suc : (m i : ℕ) → has_bit m (suc i) ≡ has_bit (m / 2) i
 unfolding has_bit
-has_suc m i = ap (λ (x : ℕ). eqb (x % 2) 1) (ap (λ (n : ℕ). m / 2 ^ n) (sym (one-add i)) ∙ sym (shr-shr m 1 i))
+has_suc m i = ap (λ (d : ℕ). eqb d 1) (bit_at-suc m i)
 
 abbrev digit : Bool → ℕ
 digit true = 1
 digit false = 0
 
-low_digit : (m : ℕ) → m % 2 ≡ digit (has_bit m 0)
-low_digit m = of (m % 2) (mod-lt m (pow_pos 1)) ∙ ap digit (sym (has_0 m))
+-- the digit at i
+has_digit : (m i : ℕ) → bit_at m i ≡ digit (has_bit m i)
+unfolding has_bit
+has_digit m i = of (bit_at m i) (bit_at-lt m i)
   where
     of : (d : ℕ) → d < 2 → d ≡ digit (eqb d 1)
     of zero h = refl
     of (suc zero) h = refl
     of (suc (suc d)) h = absurd (omega arith)
+
+low_digit : (m : ℕ) → m % 2 ≡ digit (has_bit m 0)
+low_digit m = sym (bit_at_lowest m) ∙ has_digit m 0
+
+has_is : (m i : ℕ) {d : ℕ} → bit_at m i ≡ d → has_bit m i ≡ eqb d 1
+unfolding has_bit
+has_is m i e = ap (λ (d : ℕ). eqb d 1) e
 
 -- both, from the half and the digit
 parts : (m n : ℕ) (b : Bool) → m ≡ n * 2 + digit b → (has_bit m 0 ≡ b) × (m / 2 ≡ n)
@@ -52,8 +60,8 @@ has_half m n b e j = has_suc m j ∙ ap (λ (x : ℕ). has_bit x j) (parts m n b
 -- ---- none, one, and the same
 
 pub has_none : (j : ℕ) → has_bit 0 j ≡ false
-has_none zero = has_0 0
-has_none (suc j) = has_suc 0 j ∙ has_none j
+unfolding has_bit
+has_none j = ap (λ (d : ℕ). eqb d 1) (bit_at-zero j)
 
 pub has_pow : (i j : ℕ) → has_bit (2 ^ i) j ≡ eqb i j
 has_pow zero zero = has_0 1
@@ -63,10 +71,7 @@ has_pow (suc i) (suc j) = has_half (2 ^ suc i) (2 ^ i) false (omega (arith, pow-
 
 -- two sets with the same members are the same number
 pub ext : (k a b : ℕ) → a < 2 ^ k → b < 2 ^ k → ((j : ℕ) → j < k → has_bit a j ≡ has_bit b j) → a ≡ b
-ext zero a b p q f = omega arith
-ext (suc k) a b p q f =
-    let half = ext k (a / 2) (b / 2) (omega (arith, pow-suc 2 k)) (omega (arith, pow-suc 2 k)) (λ j l. sym (has_suc a j) ∙ f (suc j) (omega arith) ∙ has_suc b j) in
-    omega (arith, low_digit a ∙ ap digit (f 0 (omega arith)) ∙ sym (low_digit b))
+ext k a b p q f = same_from_bits_below k a b p q (λ j l. has_digit a j ∙ ap digit (f j l) ∙ sym (has_digit b j))
 
 -- a set with no member is 0
 pub no_member : (k m : ℕ) → m < 2 ^ k → ((j : ℕ) → j < k → has_bit m j ≡ false) → m ≡ 0
@@ -74,30 +79,19 @@ no_member k m h f = ext k m 0 h (pow_pos k) (λ j l. f j l ∙ sym (has_none j))
 
 -- ---- or, and, not
 
--- an operation that works digit by digit
-module _ (op f : ℕ → ℕ → ℕ) (g : Bool → Bool → Bool) (step : (a b : ℕ) → op a b ≡ op (a / 2) (b / 2) * 2 + f (a % 2) (b % 2)) (one : (x y : Bool) → f (digit x) (digit y) ≡ digit (g x y)) where
-  digits : (a b : ℕ) → op a b ≡ op (a / 2) (b / 2) * 2 + digit (g (has_bit a 0) (has_bit b 0))
-  digits a b = step a b ∙ ap (λ (d : ℕ). op (a / 2) (b / 2) * 2 + d) (ap₂ f (low_digit a) (low_digit b) ∙ one (has_bit a 0) (has_bit b 0))
-
-  bitwise : (a b j : ℕ) → has_bit (op a b) j ≡ g (has_bit a j) (has_bit b j)
-  bitwise a b zero = (parts (op a b) (op (a / 2) (b / 2)) (g (has_bit a 0) (has_bit b 0)) (digits a b)).0
-  bitwise a b (suc j) =
-      has_half (op a b) (op (a / 2) (b / 2)) (g (has_bit a 0) (has_bit b 0)) (digits a b) j ∙ bitwise (a / 2) (b / 2) j
-      ∙ sym (ap₂ g (has_suc a j) (has_suc b j))
-
 pub has_or : (a b j : ℕ) → has_bit (bit_or a b) j ≡ (has_bit a j || has_bit b j)
-has_or = bitwise bit_or max ◌||◌ or_step one
+has_or a b j = has_is (bit_or a b) j (bit_at_or a b j ∙ ap₂ max (has_digit a j) (has_digit b j)) ∙ one (has_bit a j) (has_bit b j)
   where
-    one : (x y : Bool) → max (digit x) (digit y) ≡ digit (x || y)
+    one : (x y : Bool) → eqb (max (digit x) (digit y)) 1 ≡ (x || y)
     one true true = refl
     one true false = refl
     one false true = refl
     one false false = refl
 
 pub has_and : (a b j : ℕ) → has_bit (bit_and a b) j ≡ (has_bit a j && has_bit b j)
-has_and = bitwise bit_and min ◌&&◌ and_step one
+has_and a b j = has_is (bit_and a b) j (bit_at_and a b j ∙ ap₂ min (has_digit a j) (has_digit b j)) ∙ one (has_bit a j) (has_bit b j)
   where
-    one : (x y : Bool) → min (digit x) (digit y) ≡ digit (x && y)
+    one : (x y : Bool) → eqb (min (digit x) (digit y)) 1 ≡ (x && y)
     one true true = refl
     one true false = refl
     one false true = refl
@@ -105,16 +99,13 @@ has_and = bitwise bit_and min ◌&&◌ and_step one
 
 -- the members of b are flipped in a
 pub has_xor : (a b j : ℕ) → has_bit (bit_xor a b) j ≡ (if has_bit b j then not (has_bit a j) else has_bit a j)
-unfolding has_bit
-has_xor a b j = ap (λ (d : ℕ). eqb d 1) (bit_at_xor a b j) ∙ one (bit_at a j) (bit_at b j) (bit_at-lt a j) (bit_at-lt b j)
+has_xor a b j = has_is (bit_xor a b) j (bit_at_xor a b j ∙ ap₂ (λ (x y : ℕ). (x + y) % 2) (has_digit a j) (has_digit b j)) ∙ one (has_bit a j) (has_bit b j)
   where
-    one : (x y : ℕ) → x < 2 → y < 2 → eqb ((x + y) % 2) 1 ≡ (if eqb y 1 then not (eqb x 1) else eqb x 1)
-    one zero zero h l = refl
-    one zero (suc zero) h l = refl
-    one (suc zero) zero h l = refl
-    one (suc zero) (suc zero) h l = refl
-    one (suc (suc x)) y h l = absurd (omega arith)
-    one x (suc (suc y)) h l = absurd (omega arith)
+    one : (x y : Bool) → eqb ((digit x + digit y) % 2) 1 ≡ (if y then not x else x)
+    one true true = refl
+    one true false = refl
+    one false true = refl
+    one false false = refl
 
 halved : (k m : ℕ) → m < 2 ^ suc k → 2 ^ suc k - 1 - m ≡ (2 ^ k - 1 - m / 2) * 2 + digit (not (has_bit m 0))
 halved k m h = omega (arith, pow-suc 2 k, low_digit m, other (has_bit m 0))
@@ -145,9 +136,8 @@ has_ones k j =
 
 -- no member at or past the number of digits
 pub has_high : (k m j : ℕ) → m < 2 ^ k → k ≤ j → has_bit m j ≡ false
-has_high zero m j h l = let z : m ≡ 0 = omega arith in ap (λ (x : ℕ). has_bit x j) z ∙ has_none j
-has_high (suc k) m zero h l = absurd (not-suc-le-zero l)
-has_high (suc k) m (suc j) h l = has_suc m j ∙ has_high k (m / 2) j (omega (arith, pow-suc 2 k)) (le_of_suc-le-suc l)
+unfolding has_bit
+has_high k m j h l = ap (λ (d : ℕ). eqb d 1) (bit_at_above m k j h l)
 
 -- so a member is below it: the index of a table with a row for each place
 pub member_below : (k m j : ℕ) → m < 2 ^ k → has_bit m j ≡ true → j < k

@@ -39,10 +39,7 @@ pub fn with_if(mask: u64, i: usize, yes: bool) -> u64
     requires { i < 64 }
     ensures { (j : ℕ) → has_bit result j ≡ (has_bit mask j || (yes && eqb i j)) }
 {
-    if yes {
-        return with(mask, i);
-    }
-    mask
+    if yes { with(mask, i) } else { mask }
 }
 
 // The members of a and those of b.
@@ -71,10 +68,7 @@ pub fn below(n: usize) -> u64
     requires { n ≤ 64 }
     ensures { (j : ℕ) → has_bit result j ≡ ltb j n }
 {
-    if n == WIDTH {
-        return 0xffff_ffff_ffff_ffff;
-    }
-    (1 << n) - 1
+    if n == WIDTH { u64::MAX } else { (1 << n) - 1 }
 }
 
 // The numbers from `from` on that are below `to`: none where `to` is not the larger.
@@ -98,7 +92,7 @@ pub fn lowest(mask: u64) -> usize
     requires { 0 < mask }
     ensures { (result < 64) × Least mask result }
 {
-    u64::trailing_zeros(mask) as usize
+    mask.trailing_zeros() as usize
 }
 
 // All members but the least of a set that is not empty. The number falls, so the set itself is the measure of a loop

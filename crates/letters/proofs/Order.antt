@@ -4,7 +4,7 @@ use mathlib.Core.Path.{◌≡◌, sym, ap, ap₂, ◌∙◌}
 use mathlib.Core.Logic.{⊎_elim}
 use mathlib.Core.Bool.{Bool, true, false, not, ◌&&◌, true≢false, false≢true}
 use mathlib.Core.List.{List, [], ◌∷◌}
-use Prim.Native.Nat.{ℕ, ◌+◌, ◌-◌, ◌^◌, ◌≤◌, ◌<◌, min}
+use Prim.Native.Nat.{ℕ, zero, suc, ◌+◌, ◌-◌, ◌^◌, ◌≤◌, ◌<◌, min}
 use native.Mathlib.Nat.{pow-le-pow_right}
 use native.Mathlib.Omega.{arith}
 use lib.Dec.{leb, ltb}
@@ -16,8 +16,12 @@ use Rattle.bits.proofs.Laws.{has_minus, has_ones}
 use Rattle.alphabet.specs.Alphabet.{is_letter, some_letter, lowest_letter}
 use Rattle.alphabet.proofs.Alphabet.{lowest_letter_is, lowest_none, letter_below, letter_some}
 use Rattle.letters.specs.LetterSet.{has_slot, code_at, has_letter, LeastLetter}
+use Rattle.letters.specs.declared.TheConstants.{SMALL, CAPITAL, DIGITS}
+use native.Mathlib.Numerals.{add-one}
+use lib.ListN.{get_or, drop}
+use lib.Seq.{drop-cons}
 use Rattle.letters.specs.declared.LetterSet.{LetterSet}
-use Rattle.letters.specs.Order.{Range, in_range, order, place_by, place, among, first_by, first_letter}
+use Rattle.letters.specs.Order.{Range, in_range, small, capital, digit, order, place_by, place, among, first_by, first_letter}
 use Rattle.letters.proofs.Slots.{by_slot, has_low}
 use Rattle.letters.proofs.Sets.{by_words}
 use Rattle.letters.proofs.Shared.{lowest_shared, none_shared}
@@ -149,3 +153,18 @@ module _ (r : Range) where
         let low = (ends c e).0 in
         let high = (ends c e).1 in
         and_of (has_slot c) (in_range r c) (has_low c (omega arith) (omega arith)) e)
+
+-- ---- the ranges as sets, one by one
+
+abbrev pub range_sets : List LetterSet
+range_sets = SMALL ∷ (CAPITAL ∷ (DIGITS ∷ []))
+
+pub range_at : (i : ℕ) (none : LetterSet) → i < 3 → (c : ℕ) → has_letter (get_or range_sets i none) c ≡ in_range (get_or order i small) c
+range_at zero none h = range_set small (omega arith) (omega arith)
+range_at (suc zero) none h = range_set capital (omega arith) (omega arith)
+range_at (suc (suc zero)) none h = range_set digit (omega arith) (omega arith)
+range_at (suc (suc (suc i))) none h = absurd (omega arith)
+
+-- a range and those after it
+pub range_and_rest : (i : ℕ) → i < 3 → drop i order ≡ get_or order i small ∷ drop (i + 1) order
+range_and_rest i h = rw (add-one, drop-cons order i small)

@@ -21,12 +21,33 @@ pub struct LetterSet {
 }
 
 // All slots of a mask.
-const FULL: u64 = 0xffff_ffff_ffff_ffff;
+const FULL: u64 = u64::MAX;
 
 // The lowest code that has a slot, and the lowest of those past 127.
 const FIRST: u8 = 32;
 
 const FIRST_HIGH: u8 = 160;
+
+// The letters a to z: slots 65 to 90.
+const SMALL: LetterSet = LetterSet {
+    low: 0x0000_0000_0000_0000,
+    middle: 0x0000_0000_07ff_fffe,
+    high: 0x0000_0000_0000_0000,
+};
+
+// The letters A to Z: slots 33 to 58.
+const CAPITAL: LetterSet = LetterSet {
+    low: 0x07ff_fffe_0000_0000,
+    middle: 0x0000_0000_0000_0000,
+    high: 0x0000_0000_0000_0000,
+};
+
+// The digits 0 to 9: slots 16 to 25.
+const DIGITS: LetterSet = LetterSet {
+    low: 0x0000_0000_03ff_0000,
+    middle: 0x0000_0000_0000_0000,
+    high: 0x0000_0000_0000_0000,
+};
 
 impl LetterSet {
     // The empty set.
@@ -45,15 +66,14 @@ impl LetterSet {
         ensures { result ≡ has_letter self code }
     {
         if code < FIRST {
-            return false;
+            false
+        } else if code < 128 {
+            self.has_at((code - 32) as usize)
+        } else if code < FIRST_HIGH {
+            false
+        } else {
+            self.has_at((code - 64) as usize)
         }
-        if code < 128 {
-            return self.has_at((code - 32) as usize);
-        }
-        if code < FIRST_HIGH {
-            return false;
-        }
-        self.has_at((code - 64) as usize)
     }
 
     // Is the slot's code in the set.
@@ -61,13 +81,11 @@ impl LetterSet {
         requires { slot < 192 }
         ensures { result ≡ in_slot self slot }
     {
-        if slot < 64 {
-            return bits::has(self.low, slot);
+        match slot {
+            0..64 => bits::has(self.low, slot),
+            64..128 => bits::has(self.middle, slot - 64),
+            _ => bits::has(self.high, slot - 128),
         }
-        if slot < 128 {
-            return bits::has(self.middle, slot - 64);
-        }
-        bits::has(self.high, slot - 128)
     }
 
     // The letters of both.
@@ -119,13 +137,7 @@ impl LetterSet {
     pub fn is_empty(self) -> bool
         ensures { (result ≡ true → (c : ℕ) → has_letter self c ≡ false) × (result ≡ false → Some self) }
     {
-        if self.low != 0 {
-            return false;
-        }
-        if self.middle != 0 {
-            return false;
-        }
-        self.high == 0
+        self.low == 0 && self.middle == 0 && self.high == 0
     }
 
     // Has the set all letters from 192 on. Such a set is most often one of nearly all letters, and sooner told by those that it lacks.
@@ -141,12 +153,12 @@ impl LetterSet {
         ensures { LeastLetter self result }
     {
         if self.low != 0 {
-            return code_at(bits::lowest(self.low));
+            code_at(bits::lowest(self.low))
+        } else if self.middle != 0 {
+            code_at(64 + bits::lowest(self.middle))
+        } else {
+            code_at(128 + bits::lowest(self.high))
         }
-        if self.middle != 0 {
-            return code_at(64 + bits::lowest(self.middle));
-        }
-        code_at(128 + bits::lowest(self.high))
     }
 
     // All letters but the lowest of a set that is not empty. The weight falls, and is the measure of a loop that takes one
@@ -156,23 +168,20 @@ impl LetterSet {
         ensures { (weight result < weight self) × ((t : ℕ) → LeastLetter self t → Less (has_letter self) t (has_letter result)) }
     {
         if self.low != 0 {
-            return LetterSet {
+            LetterSet {
                 low: bits::rest(self.low),
-                middle: self.middle,
-                high: self.high,
-            };
-        }
-        if self.middle != 0 {
-            return LetterSet {
-                low: 0,
+                ..self
+            }
+        } else if self.middle != 0 {
+            LetterSet {
                 middle: bits::rest(self.middle),
-                high: self.high,
-            };
-        }
-        LetterSet {
-            low: 0,
-            middle: 0,
-            high: bits::rest(self.high),
+                ..self
+            }
+        } else {
+            LetterSet {
+                high: bits::rest(self.high),
+                ..self
+            }
         }
     }
 
@@ -182,17 +191,11 @@ impl LetterSet {
         requires { Some self × ((c : ℕ) → has_letter self c ≡ true → is_letter c ≡ true) }
         ensures { result ≡ first_letter (has_letter self) }
     {
-        let small = self.intersection(small_letters());
-        if !small.is_empty() {
-            return small.lowest();
-        }
-        let capital = self.intersection(capital_letters());
-        if !capital.is_empty() {
-            return capital.lowest();
-        }
-        let digit = self.intersection(digits());
-        if !digit.is_empty() {
-            return digit.lowest();
+        for range in [SMALL, CAPITAL, DIGITS] {
+            let shown = self.intersection(range);
+            if !shown.is_empty() {
+                return shown.lowest();
+            }
         }
         self.lowest()
     }
@@ -211,48 +214,16 @@ impl NumberSet for LetterSet {
     }
 }
 
-// The letters a to z: slots 65 to 90.
-fn small_letters() -> LetterSet
-    ensures { (c : ℕ) → has_letter result c ≡ in_range small c }
-{
-    LetterSet {
-        low: 0x0000_0000_0000_0000,
-        middle: 0x0000_0000_07ff_fffe,
-        high: 0x0000_0000_0000_0000,
-    }
-}
-
-// The letters A to Z: slots 33 to 58.
-fn capital_letters() -> LetterSet
-    ensures { (c : ℕ) → has_letter result c ≡ in_range capital c }
-{
-    LetterSet {
-        low: 0x07ff_fffe_0000_0000,
-        middle: 0x0000_0000_0000_0000,
-        high: 0x0000_0000_0000_0000,
-    }
-}
-
-// The digits 0 to 9: slots 16 to 25.
-fn digits() -> LetterSet
-    ensures { (c : ℕ) → has_letter result c ≡ in_range digit c }
-{
-    LetterSet {
-        low: 0x0000_0000_03ff_0000,
-        middle: 0x0000_0000_0000_0000,
-        high: 0x0000_0000_0000_0000,
-    }
-}
-
 // The slot of a code that has one.
 pub fn slot_of(code: u8) -> usize
     requires { has_slot code ≡ true }
     ensures { result ≡ slot_of code }
 {
     if code < 128 {
-        return (code - 32) as usize;
+        (code - 32) as usize
+    } else {
+        (code - 64) as usize
     }
-    (code - 64) as usize
 }
 
 // The code of a slot.
@@ -261,7 +232,8 @@ fn code_at(slot: usize) -> u8
     ensures { result ≡ code_at slot }
 {
     if slot < 96 {
-        return 32 + slot as u8;
+        32 + slot as u8
+    } else {
+        64 + slot as u8
     }
-    64 + slot as u8
 }

@@ -17,8 +17,8 @@ overflow_sub-result c =
     let h : n < 64 = omega (arith, c.if-n-eq-WIDTH.false) in
     omega (arith, one_shl n h, pow_pos n)
 
-pub returns : goal.returns
-returns c j =
+pub returns-else-n-eq-WIDTH : goal.returns-else-n-eq-WIDTH
+returns-else-n-eq-WIDTH c j =
     let n = c.args.n in
     let h : n < 64 = omega (arith, c.if-n-eq-WIDTH.false) in
     ap (λ (x : ℕ). has_bit (x - 1) j) (one_shl n h) ∙ has_ones n j

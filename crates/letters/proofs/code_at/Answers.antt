@@ -7,5 +7,5 @@ use Rattle.letters.proofs.code_at.Goals as goal
 pub returns-then-slot-lt96 : goal.returns-then-slot-lt96
 returns-then-slot-lt96 c = sym (code_low c.args.slot (omega arith))
 
-pub returns : goal.returns
-returns c = sym (code_high c.args.slot (omega arith))
+pub returns-else-slot-lt96 : goal.returns-else-slot-lt96
+returns-else-slot-lt96 c = sym (code_high c.args.slot (omega arith))

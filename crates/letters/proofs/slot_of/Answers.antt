@@ -11,5 +11,5 @@ overflow_sub-result c = let code = c.args.code in by_half (32 ≤ code) code c.r
 pub returns-then-code-lt128 : goal.returns-then-code-lt128
 returns-then-code-lt128 c = sym (slot_low c.args.code (omega arith))
 
-pub returns : goal.returns
-returns c = sym (slot_high c.args.code (omega arith))
+pub returns-else-code-lt128 : goal.returns-else-code-lt128
+returns-else-code-lt128 c = sym (slot_high c.args.code (omega arith))

@@ -17,7 +17,7 @@ returns-then-code-lt128 c =
 pub returns-then-code-lt-FIRST_HIGH : goal.returns-then-code-lt-FIRST_HIGH
 returns-then-code-lt-FIRST_HIGH c = let a = c.args in sym (not_in a.self a.code (no_slot a.code (λ l h. omega arith) (λ l h. omega arith)))
 
-pub returns : goal.returns
-returns c =
+pub returns-else-code-lt-FIRST_HIGH : goal.returns-else-code-lt-FIRST_HIGH
+returns-else-code-lt-FIRST_HIGH c =
     let a = c.args in
-    c.has_at-2.ensures ∙ sym (is_in_its_slot a.self a.code (has_high a.code (omega arith) (omega arith)) ∙ ap (in_slot a.self) (slot_high a.code (omega arith)))
+    c.has_at-else-code-lt-FIRST_HIGH.ensures ∙ sym (is_in_its_slot a.self a.code (has_high a.code (omega arith) (omega arith)) ∙ ap (in_slot a.self) (slot_high a.code (omega arith)))

@@ -17,12 +17,12 @@ returns-then-self-ne0-2 c =
     let u = c.lowest-then-self-ne0-2 in
     subst (LeastLetter s) (sym c.code_at-then-self-ne0-2.ensures) (least_of s 64 s.middle (middle_word s c.if-self-ne0.false (omega arith)) u.result u.ensures.0 u.ensures.1)
 
-pub lowest-requires-2 : goal.lowest-requires-2
-lowest-requires-2 c = high_some c.args.self c.if-self-ne0.false c.if-self-ne0-2.false c.requires
+pub lowest-requires-else-self-ne0-2 : goal.lowest-requires-else-self-ne0-2
+lowest-requires-else-self-ne0-2 c = high_some c.args.self c.if-self-ne0.false c.if-self-ne0-2.false c.requires
 
-pub returns : goal.returns
-returns c =
+pub returns-else-self-ne0-2 : goal.returns-else-self-ne0-2
+returns-else-self-ne0-2 c =
     let s = c.args.self in
-    let u = c.lowest-2 in
-    subst (LeastLetter s) (sym c.code_at-2.ensures)
+    let u = c.lowest-else-self-ne0-2 in
+    subst (LeastLetter s) (sym c.code_at-else-self-ne0-2.ensures)
     (least_of s 128 s.high (high_word s c.if-self-ne0.false c.if-self-ne0-2.false (omega arith)) u.result u.ensures.0 u.ensures.1)

@@ -15,22 +15,22 @@ returns-then-self-ne0 c =
 pub returns-then-self-ne0-2 : goal.returns-then-self-ne0-2
 returns-then-self-ne0-2 c =
     let s = c.args.self in
-    let r : LetterSet = record { low = 0; middle = c.rest-then-self-ne0-2.result; high = s.high } in
+    let r : LetterSet = record { low = s.low; middle = c.rest-then-self-ne0-2.result; high = s.high } in
     let z = c.if-self-ne0.false in (
       omega arith,
-      rest_of s 64 s.middle (middle_word s z (omega arith)) r r.middle (middle_word r refl c.rest-then-self-ne0-2.type_inv) (same_from_high r s refl) (omega arith) c.rest-then-self-ne0-2.ensures.1,
+      rest_of s 64 s.middle (middle_word s z (omega arith)) r r.middle (middle_word r z c.rest-then-self-ne0-2.type_inv) (same_from_high r s refl) (omega arith) c.rest-then-self-ne0-2.ensures.1,
     )
 
-pub rest-requires-2 : goal.rest-requires-2
-rest-requires-2 c = high_some c.args.self c.if-self-ne0.false c.if-self-ne0-2.false c.requires
+pub rest-requires-else-self-ne0-2 : goal.rest-requires-else-self-ne0-2
+rest-requires-else-self-ne0-2 c = high_some c.args.self c.if-self-ne0.false c.if-self-ne0-2.false c.requires
 
-pub returns : goal.returns
-returns c =
+pub returns-else-self-ne0-2 : goal.returns-else-self-ne0-2
+returns-else-self-ne0-2 c =
     let s = c.args.self in
-    let r : LetterSet = record { low = 0; middle = 0; high = c.rest-2.result } in
+    let r : LetterSet = record { low = s.low; middle = s.middle; high = c.rest-else-self-ne0-2.result } in
     let z = c.if-self-ne0.false in
     let y = c.if-self-ne0-2.false in (
       omega arith,
-      rest_of s 128 s.high (high_word s z y (omega arith)) r r.high (high_word r refl refl c.rest-2.type_inv)
-          (λ i. at_past r c.rest-2.type_inv i ∙ sym (at_past s (omega arith) i)) (high_some s z y c.requires) c.rest-2.ensures.1,
+      rest_of s 128 s.high (high_word s z y (omega arith)) r r.high (high_word r z y c.rest-else-self-ne0-2.type_inv)
+          (λ i. at_past r c.rest-else-self-ne0-2.type_inv i ∙ sym (at_past s (omega arith) i)) (high_some s z y c.requires) c.rest-else-self-ne0-2.ensures.1,
     )
