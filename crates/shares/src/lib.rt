@@ -2,7 +2,7 @@
 // shares a letter with it, and where two links or more lead from a state, which are made here.
 #![tactic(auto)]
 
-ghost use Rattle.std.specs.Prelude.{◌≡◌, true, false, ◌&&◌, ℕ, ◌+◌, ◌*◌, ◌≤◌, ltb, length, get_or};
+ghost use Rattle.std.specs.Prelude.{◌≡◌, true, false, ◌&&◌, ℕ, ◌+◌, ◌*◌, ◌≤◌, ltb, get_or};
 ghost use Rattle.bits.specs.Bits.{has_bit};
 ghost use Rattle.alphabet.specs.Alphabet.{some_letter, is_letter};
 ghost use Rattle.letters.specs.LetterSet.{has_letter, OnlyLetters};
@@ -47,8 +47,8 @@ fn share(s: LetterSet, t: LetterSet) -> bool
 
 // The positions to which two links or more lead from u, for every state u up to `positions`, in rows: those of its row of `follow`
 // with a number above 0 in the table of links beyond the first. Where `doubled` says that there are none, nothing is looked up.
-pub fn double_rows(follow: &[u64; 61], more: &[u8], doubled: bool, positions: usize) -> [u64; 61]
-    requires { Within follow.now × (length more.now ≡ 3721) × (doubled ≡ false → NoneDoubled follow.now more.now) × (positions ≤ 60) }
+pub fn double_rows(follow: &[u64; 61], more: &[u8; 3721], doubled: bool, positions: usize) -> [u64; 61]
+    requires { Within follow.now × (doubled ≡ false → NoneDoubled follow.now more.now) × (positions ≤ 60) }
     ensures { (u i : ℕ) → u ≤ positions → has_bit (get_or result u 0) i ≡ is_doubled follow.now more.now u i }
 {
     let mut rows = [0u64; 61];
@@ -62,8 +62,8 @@ pub fn double_rows(follow: &[u64; 61], more: &[u8], doubled: bool, positions: us
 }
 
 // Of a set of positions that may come next at u, those with a number above 0 in its row of the table.
-fn double_row(set: u64, more: &[u8], u: usize) -> u64
-    requires { ((i : ℕ) → has_bit set i ≡ true → i ≤ 60) × (length more.now ≡ 3721) × (u ≤ 60) }
+fn double_row(set: u64, more: &[u8; 3721], u: usize) -> u64
+    requires { ((i : ℕ) → has_bit set i ≡ true → i ≤ 60) × (u ≤ 60) }
     ensures { (i : ℕ) → has_bit result i ≡ (has_bit set i && ltb 0 (get_or more.now (61 * u + i) 0)) }
 {
     let mut doubled = 0;

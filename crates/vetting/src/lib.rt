@@ -30,8 +30,8 @@ pub struct Vetted {
 
 // The verdict of a pattern, with its evidence; `more` is the table of its links beyond the first. 4,096 bytes and 4,096 numbers are
 // enough, whatever they hold.
-pub fn vet(b: Built, more: &[u8], evidence: &mut [u8], scratch: &mut [u16]) -> Vetted
-    requires { Vettable b more.now × (length more.now ≡ 3721) × (4096 ≤ length evidence.old) × (4096 ≤ length scratch.old) }
+pub fn vet(b: Built, more: &[u8; 3721], evidence: &mut [u8], scratch: &mut [u16]) -> Vetted
+    requires { Vettable b more.now × (4096 ≤ length evidence.old) × (4096 ≤ length scratch.old) }
     ensures { Judged (graph_of_built b more.now) evidence.old evidence.new result }
 {
     let steps = Steps {
@@ -52,7 +52,7 @@ pub fn vet(b: Built, more: &[u8], evidence: &mut [u8], scratch: &mut [u16]) -> V
 // Of a pattern without a pivot, whose links `more` counts: steady where two readings part and both come to an end, else single.
 fn single_or_steady(
     b: &Built,
-    more: &[u8],
+    more: &[u8; 3721],
     steps: &Steps,
     evidence: &mut [u8],
     scratch: &mut [u16],
@@ -73,7 +73,7 @@ fn single_or_steady(
 // Of a pattern whose first pivot is q, and whose links `more` counts. Where no letters are shared, paths never part.
 fn runaway(
     b: &Built,
-    more: &[u8],
+    more: &[u8; 3721],
     steps: &Steps,
     evidence: &mut [u8],
     scratch: &mut [u16],
