@@ -1,16 +1,14 @@
 -- Where two links or more lead: the walk that keeps the members of a set that pass a test. Assumes nothing.
 use mathlib.Core.Path.{◌≡◌, sym, ap, ◌∙◌, subst}
 use mathlib.Core.Bool.{Bool, true, false, not, ◌&&◌, ◌||◌, or-false, or_assoc}
-use Prim.Native.Nat.{ℕ, zero, suc, ◌^◌, ◌<◌}
+use Prim.Native.Nat.{ℕ, ◌^◌, ◌<◌}
 use native.Mathlib.Omega.{arith}
-use borrow.Author.Tests.{lt-ltb, le-ltb}
-use lib.Dec.{eqb, ltb}
+use lib.Dec.{eqb}
 use Rattle.basics.specs.Folds.{any_if}
 use Rattle.basics.proofs.Tests.{and_parts}
 use Rattle.bits.specs.Bits.{has_bit, Taken}
 use Rattle.bits.proofs.Laws.{has_none}
 use Rattle.bits.proofs.Walk.{any_turn, walk_end, kept}
-use Rattle.graph.specs.Graph.{some}
 
 -- ---- the walk: those kept, and those that are left and pass, are the members that pass
 
@@ -38,9 +36,3 @@ keep_turn {left = left} {out} {t} {rest} {f = f} k s o = record {
 pub keep_end : {set left out : ℕ} {f : ℕ → Bool} → Keeping set left out f → ((j : ℕ) → has_bit left j ≡ false) → (j : ℕ) → has_bit out j ≡ (has_bit set j && f j)
 keep_end {left = left} {out} {f} k z j =
     sym (ap (λ (x : Bool). has_bit out j || x) (walk_end false ◌||◌ (λ i. f i && eqb i j) 64 left z) ∙ or-false (has_bit out j)) ∙ k.bits j
-
--- ---- a number above 0
-
-pub some_above : (n : ℕ) → ltb 0 n ≡ some n
-some_above zero = le-ltb 0 0 (omega arith)
-some_above (suc n) = lt-ltb 0 (suc n) (omega arith)
