@@ -26,8 +26,9 @@ impl Tables {
     pub fn new() -> Tables
         ensures { Stored [] result.sets result.credits }
     {
+        let sets = set_table::empty();
         Tables {
-            sets: set_table::empty(),
+            sets,
             credits: [9; 61],
         }
     }

@@ -47,12 +47,12 @@ fn pattern(
     loop {
         let mut b = branch(s, so_far.at, so_far.n, all, tables, more);
         so_far = so_far.either(b.part);
-        if !is_bar(s, so_far.good, so_far.at) {
+        if !is_bar(s, so_far) {
             b.part = so_far;
             return b;
         }
         all = b.rows;
-        so_far.at = so_far.at + 1;
+        so_far.at += 1;
     }
 }
 
@@ -82,7 +82,7 @@ fn branch(
         };
         let next = repeats::repeat(s, so_far.n, atom, &mut all, tables, more);
         so_far = so_far.join(&mut all, next);
-        if !goes_on(s, so_far.good, so_far.at) {
+        if !goes_on(s, so_far) {
             return ParsedRows {
                 part: so_far,
                 rows: all,
@@ -110,15 +110,15 @@ fn piece(
 }
 
 // Does another branch follow.
-fn is_bar(s: &[u8], good: bool, at: usize) -> bool
-    ensures { result ≡ (good && bar_next (drop at s.now)) }
+fn is_bar(s: &[u8], p: Parsed) -> bool
+    ensures { result ≡ (p.good && bar_next (drop p.at s.now)) }
 {
-    good & (places::byte_at(s, at) == b'|')
+    p.good & (places::byte_at(s, p.at) == b'|')
 }
 
 // Does another piece follow.
-fn goes_on(s: &[u8], good: bool, at: usize) -> bool
-    ensures { result ≡ (good && goes_on (drop at s.now)) }
+fn goes_on(s: &[u8], p: Parsed) -> bool
+    ensures { result ≡ (p.good && goes_on (drop p.at s.now)) }
 {
-    good & !((s.len() <= at) | matches!(places::byte_at(s, at), b'|' | b')'))
+    p.good & !((s.len() <= p.at) | matches!(places::byte_at(s, p.at), b'|' | b')'))
 }

@@ -24,4 +24,4 @@ returns c =
       | in-124 w ↦ w.matches-is ∙ sym (⊎_elim (λ e. ap ends_part e) (λ e. ap ends_part e) w.in-124.is)
       | in_default w ↦ w.matches-is ∙ sym (neither c.byte_at.result (λ e. search rules) (λ e. search rules))
     ] in
-    ap₂ (λ (t u : Bool). c.args.good && not (t || u)) (none_left c.args.s.now c.args.at) (ends ∙ ap ends_part c.byte_at.ensures)
+    ap₂ (λ (t u : Bool). c.args.p.good && not (t || u)) (none_left c.args.s.now c.args.p.at) (ends ∙ ap ends_part c.byte_at.ensures)

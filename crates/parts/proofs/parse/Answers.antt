@@ -5,9 +5,6 @@ use lib.ListN.{length}
 use Rattle.parts.proofs.Parsing.{has_whole}
 use Rattle.parts.proofs.parse.Goals as goal
 
-pub pattern-requires : goal.pattern-requires
-pattern-requires c = omega arith
-
 pub returns : goal.returns
 returns c =
     let s = c.args.s.now in

@@ -3,4 +3,4 @@ use Rattle.parsed.proofs.Storing.{none_stored}
 use Rattle.parsed.proofs.Tables.new.Goals as goal
 
 pub returns : goal.returns
-returns c = none_stored _ c.empty.ensures.1
+returns c = none_stored _ c.empty-sets.ensures.1
