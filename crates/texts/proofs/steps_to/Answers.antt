@@ -3,18 +3,8 @@ use mathlib.Core.Path.{sym, subst}
 use Prim.Native.Nat.{ℕ, ◌+◌, ◌<◌}
 use native.Mathlib.Omega.{arith}
 use Rattle.search.specs.Search.{back_of}
-use Rattle.texts.proofs.Tracing.{Counted, count_start, count_next, count_end}
+use Rattle.texts.proofs.Tracing.{Counted, count_next, count_end}
 use Rattle.texts.proofs.steps_to.Goals as goal
-
-pub loop-j-init : goal.loop-j-init
-loop-j-init c = count_start c.args.scratch.now c.args.i
-
-pub before-j-requires : goal.before-j-requires
-before-j-requires c = (c.requires.long, omega (arith, c.loop-j.invariant.low, c.requires.few))
-
-pub loop-j-smaller : goal.loop-j-smaller
-loop-j-smaller c =
-    omega (arith, c.before-j.ensures, c.requires.lower c.loop-j.j c.loop-j-test.true (omega (arith, c.loop-j.invariant.low)))
 
 pub loop-j-preserved : goal.loop-j-preserved
 loop-j-preserved c =
