@@ -41,7 +41,8 @@ impl Row {
         Row { active: 1, cells }
     }
 
-    // One letter on, by a letter that the positions of `holds` hold: the row after it is stored in `next`.
+    // One letter on, by a letter that the positions of `holds` hold: the row after it is stored in `next`. Credits wrap: those of a
+    // row that was made here are far too small for it.
     pub fn step(&self, next: &mut Row, holds: u64, links: &Links)
         requires { holds < 2 ^ 61 }
         ensures { Stepped links.now holds self.now next.new }
@@ -103,12 +104,17 @@ const MOST: u64 = 0x8000_0000_0000_0000;
 fn plus(x: u64, y: u64) -> u64
     ensures { result ≡ min (x + y) (2 ^ 63) }
 {
-    x.saturating_add(y).min(MOST)
+    if y < MOST && x < MOST - y {
+        x + y
+    } else {
+        MOST
+    }
 }
 
 // A number taken once, and as often again as `more` says, 2^63 where that is above it.
 fn times(x: u64, more: u8) -> u64
     ensures { result ≡ min (suc more * x) (2 ^ 63) }
 {
-    x.saturating_mul(more as u64 + 1).min(MOST)
+    let product = x as u128 * (more as u128 + 1);
+    product.min(MOST as u128) as u64
 }

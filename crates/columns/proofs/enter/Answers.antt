@@ -8,16 +8,6 @@ loop-x-init g c =
     let e : c.into_iter-x-iterator.result.left ≡ c.args.members = ap (λ w. w.left) c.into_iter-x-iterator.ensures.into_iter_gives ∙ c.members-x-items.ensures in
     (tt, tt, rw e (enter_start (g.S.NumberSet.has c.args.members) c.args.j c.args.table.now))
 
-pub bounds-table-x : goal.bounds-table-x
-bounds-table-x g c =
-    let h = c.loop-x.invariant.2 in
-    omega (arith, h.size, c.requires.0 c.in-Some.x (h.within c.in-Some.x c.in-Some.ensures.steps.least.here))
-
-pub bounds-table-x-in-loop-x : goal.bounds-table-x-in-loop-x
-bounds-table-x-in-loop-x g c =
-    let h = c.loop-x.invariant.2 in
-    omega (arith, h.size, c.requires.0 c.in-Some.x (h.within c.in-Some.x c.in-Some.ensures.steps.least.here))
-
 pub loop-x-preserved : goal.loop-x-preserved
 loop-x-preserved g c =
     let at = c.loop-x in
