@@ -1,11 +1,11 @@
--- The code is no letter, or its slot is the only one in the three words. Assumes nothing.
+-- A letter's slot is the only one in the three words. Assumes nothing.
 use mathlib.Core.Path.{◌≡◌, sym, ap, ◌∙◌}
-use mathlib.Core.Bool.{Bool, true, false, ◌&&◌, and-false}
+use mathlib.Core.Bool.{Bool, true, ◌&&◌}
 use Prim.Native.Nat.{ℕ, ◌+◌, ◌<◌}
 use native.Mathlib.Omega.{arith}
 use lib.Dec.{eqb, leb}
-use borrow.Author.Tests.{leb-true, eqb-true, eq-eqb, ne_eqb, le-leb}
-use Rattle.basics.proofs.Tests.{and_parts, and_of, same_test, by_equal}
+use borrow.Author.Tests.{leb-true, eqb-true, eq-eqb, le-leb}
+use Rattle.basics.proofs.Tests.{and_parts, and_of, same_test}
 use Rattle.bits.specs.Bits.{has_bit}
 use Rattle.alphabet.specs.Alphabet.{is_letter}
 use Rattle.letters.specs.LetterSet.{code_at, slot_of, has_slot}
@@ -27,21 +27,10 @@ alone code k =
     let e = eqb-true code k t in
     and_of (leb code k) (leb k code) (le-leb code k (omega arith)) (le-leb k code (omega arith)))
 
-not_letter : (code k : ℕ) → is_letter code ≡ false → (is_letter k && (leb code k && leb k code)) ≡ false
-not_letter code k h =
-    ap (λ (t : Bool). is_letter k && t) (alone code k)
-    ∙ by_equal code k (λ z. ap (λ (t : Bool). t && eqb code k) (ap is_letter (sym z) ∙ h)) (λ d. ap (λ (t : Bool). is_letter k && t) (ne_eqb code k d) ∙ and-false (is_letter k))
-
 -- a word with the bit of the code's slot, or with none
 in_word : (code slot base w i : ℕ) → has_slot code ≡ true → slot ≡ slot_of code → base + i < 192 → has_bit w i ≡ eqb slot (base + i) → has_bit w i ≡ eqb code (code_at (base + i))
 in_word code slot base w i h z l e =
     e ∙ ap (λ (x : ℕ). eqb x (base + i)) z ∙ sym (code_equal (slot_of code) (base + i) (slot_small code h) l) ∙ ap (λ (x : ℕ). eqb x (code_at (base + i))) (code_slot code h)
-
-pub returns-then-not-is_letter : goal.returns-then-not-is_letter
-returns-then-not-is_letter c k =
-    let letter = c.is_letter in
-    let code = c.args.code in
-    c.empty.ensures k ∙ sym (not_letter code k (sym letter.ensures ∙ c.if-not-is_letter.true))
 
 pub slot_of-slot-requires : goal.slot_of-slot-requires
 slot_of-slot-requires c =

@@ -1,10 +1,7 @@
 -- A set is copied at each turn, and in the end those of the entries up to n are. Assumes nothing.
-use mathlib.Core.Path.{refl, ap, ◌∙◌}
-use mathlib.Core.Bool.{Bool, ◌&&◌}
+use mathlib.Core.Path.{refl, ◌∙◌}
 use native.Mathlib.Omega.{arith}
 use lib.ListN.{length-set}
-use Rattle.basics.proofs.Tests.{below_next}
-use Rattle.letters.specs.LetterSet.{has_letter}
 use Rattle.set_table.specs.Table.{set_in}
 use Rattle.set_table.proofs.Tables.{copy_none, copy_one}
 use Rattle.set_table.proofs.sets.Goals as goal
@@ -18,9 +15,3 @@ loop-i-preserved c =
     let table = c.args.table.now in
     let at = c.loop-i in
     (length-set at.out at.i (set_in table at.i) ∙ at.invariant.0, copy_one table at.out at.i (omega (arith, at.invariant.0, c.requires)) at.invariant.1)
-
-pub returns : goal.returns
-returns c =
-    λ i k.
-    let at = c.loop-i in
-    at.invariant.1 i k ∙ ap (λ (t : Bool). t && has_letter (set_in c.args.table.now i) k) (below_next i at.i c.args.n (omega (arith, at.auto)))
