@@ -1,41 +1,36 @@
 -- What reading a lettered atom gives.
-use Rattle.std.specs.Prelude.{◌≡◌, true, not, List, ℕ, ◌<◌, ◌≤◌, length, drop}
+use Rattle.std.specs.Prelude.{◌≡◌, not, List, ℕ, ◌≤◌, Option}
+use Rattle.std.specs.Borrow.{Bor}
 use Rattle.alphabet.specs.Alphabet.{some_letter}
 use Rattle.letters.specs.LetterSet.{has_letter}
 use Rattle.graph.specs.Built.{lowered}
-use Rattle.pattern.specs.Parts.{Atom, holds, Part, letter}
-use Rattle.pattern.specs.Grammar.{Credit, Read}
+use Rattle.pattern.specs.Parts.{Atom, holds, letter}
+use Rattle.pattern.specs.Grammar.{Credit, credit, no_credit, Read, read, broken}
 use Rattle.pattern.specs.Refusals.{some_reversed}
-use Rattle.atoms.specs.declared.CreditRead.{CreditRead}
+use Rattle.places.specs.Reads.{Reads}
 use Rattle.atoms.specs.declared.Lettered.{Lettered}
 
--- a credit that ends at a place
-abbrev pub credit_to : ℕ → ℕ → CreditRead
-credit_to at raised = record { good = true; at = at; raised = raised }
+-- a credit of the rules, C: the number is raised by 9
+pub record IsCredit (C : Credit) (raised : ℕ) (rest : List ℕ) : Type 0 where
+  pub same : C ≡ credit (lowered 1 raised) rest
+  pub small : raised ≤ 18
 
--- the result stands for the credit that the rules read, C, of the text s from the place at on
-pub record ReadsCredit (s : List ℕ) (at : ℕ) (C : Credit) (r : CreditRead) : Type 0 where
-  pub same : r.good ≡ C.good
-  pub on : r.good ≡ true → at ≤ r.at
-  pub within : r.good ≡ true → at ≤ length s → r.at ≤ length s
-  pub rest : r.good ≡ true → C.rest ≡ drop r.at s
-  pub credit : r.good ≡ true → lowered 1 r.raised ≡ C.credit
-  pub small : r.good ≡ true → r.raised ≤ 18
+abbrev pub ReadsCredit : Credit → Option (ℕ × Bor (List ℕ)) → Type 0
+ReadsCredit C r = Reads r (C ≡ no_credit) (IsCredit C)
 
--- the result has what the atom of the rules has
-pub record IsAtom (p : Part) (r : Lettered) : Type 0 where
+-- the result has what an atom of the rules has
+pub record IsAtom (what : Atom) (l : Lettered) : Type 0 where
+  pub has : (c : ℕ) → has_letter l.set c ≡ holds what c
+  pub hollow : l.hollow ≡ not (some_letter (holds what))
+  pub turned : l.reversed ≡ some_reversed what.items
+  pub credit : lowered 1 l.credit ≡ what.credit
+  pub small : l.credit ≤ 18
+
+-- the result stands for an atom that the rules read, R
+pub record IsRead (R : Read) (l : Lettered) (rest : List ℕ) : Type 0 where
   pub what : Atom
-  pub part : p ≡ letter what
-  pub has : (c : ℕ) → has_letter r.set c ≡ holds what c
-  pub hollow : r.hollow ≡ not (some_letter (holds what))
-  pub turned : r.reversed ≡ some_reversed what.items
-  pub credit : lowered 1 r.credit ≡ what.credit
-  pub small : r.credit ≤ 18
+  pub same : R ≡ read (letter what) rest
+  pub atom : IsAtom what l
 
--- the result stands for what the rules read, R, of the text s from the place at on
-pub record ReadsAtom (s : List ℕ) (at : ℕ) (R : Read) (r : Lettered) : Type 0 where
-  pub same : r.good ≡ R.good
-  pub on : r.good ≡ true → at < r.at
-  pub within : r.good ≡ true → r.at ≤ length s
-  pub rest : r.good ≡ true → R.rest ≡ drop r.at s
-  pub has : r.good ≡ true → IsAtom R.part r
+abbrev pub ReadsAtom : Read → Option (Lettered × Bor (List ℕ)) → Type 0
+ReadsAtom R r = Reads r (R ≡ broken) (IsRead R)

@@ -1,13 +1,13 @@
-// Lettered atoms: one letter, `.` or a class, and the credit after it. Every function takes any bytes and any place, and past
-// the end of the text there is no atom.
+// Lettered atoms: one letter, `.` or a class, and the credit after it. Every function reads the front of any text, and gives what it
+// read and the text after it, or `None` where the grammar has nothing good there.
 #![tactic(auto)]
 
-ghost use Rattle.std.specs.Prelude.{◌≡◌, true, false, List, [], ◌∷◌, ℕ, drop};
+ghost use Rattle.std.specs.Prelude.{◌≡◌, true, false, [], ◌∷◌};
 ghost use Rattle.basics.specs.Bytes.{is_in};
-ghost use Rattle.pattern.specs.Parts.{item as anItem};
-ghost use Rattle.pattern.specs.Grammar.{Read, broken, special as specialBytes, credit_digit, read_credit, read_letter};
-ghost use Rattle.classes.specs.Classes.{Decides, UpToCredit, ReadsNamed};
-ghost use Rattle.atoms.specs.Atoms.{credit_to, ReadsCredit, ReadsAtom};
+ghost use Rattle.pattern.specs.Parts.{item};
+ghost use Rattle.pattern.specs.Grammar.{special as specialBytes, credit_digit, read_credit, read_letter};
+ghost use Rattle.classes.specs.Classes.{Names, ReadsNamed};
+ghost use Rattle.atoms.specs.Atoms.{ReadsCredit, ReadsAtom};
 
 use classes::Named;
 use letters::LetterSet;
@@ -15,68 +15,61 @@ use letters::LetterSet;
 // The sign of points taken off.
 const MINUS: u8 = b'-';
 
-// A lettered atom that was read: where it ends, its letters, whether it has none, whether a range of it is reversed, and its
-// credit, raised by 9, so that it has no sign. Where `good` is false there is none, and the rest means nothing.
+// A lettered atom that was read: its letters, whether it has none, whether a range of it is reversed, and its credit, raised by 9, so
+// that it has no sign.
 #[derive(Clone, Copy)]
 pub struct Lettered {
-    pub good: bool,
-    pub at: usize,
     pub set: LetterSet,
     pub hollow: bool,
     pub reversed: bool,
     pub credit: u8,
 }
 
-// The lettered atom that begins at a place of s, with its credit.
-pub fn atom(s: &[u8], at: usize) -> Lettered
-    ensures { ReadsAtom s.now at (read_letter (drop at s.now)) result }
+// The lettered atom at the front of a text, with its credit.
+pub fn atom(text: &[u8]) -> Option<(Lettered, &[u8])>
+    ensures { ReadsAtom (read_letter text.now) result }
 {
-    let n = names(s, at);
-    with_credit(s, n)
+    let (named, rest) = names(text)?;
+    let (credit, rest) = credit(rest)?;
+    let hollow = named.set.is_empty();
+    let atom = Lettered {
+        set: named.set,
+        hollow,
+        reversed: named.reversed,
+        credit,
+    };
+    Some((atom, rest))
 }
 
-// The letters of the atom that begins at a place.
-fn names(s: &[u8], at: usize) -> Named
-    ensures { ReadsNamed s.now at (read_letter (drop at s.now)) result }
+// The letters of the atom at the front of a text.
+fn names(text: &[u8]) -> Option<(Named, &[u8])>
+    ensures { ReadsNamed (read_letter text.now) result }
 {
-    if s.len() <= at {
-        return one(false, 0, at);
+    match text {
+        [b'[', rest @ ..] => classes::class(rest),
+        [b'.', rest @ ..] => Some((every(), rest)),
+        [b'\\', b, rest @ ..] if special(*b) => Some((one(*b), rest)),
+        [b, rest @ ..] if !special(*b) => Some((one(*b), rest)),
+        _ => None,
     }
-    let b = s[at];
-    if b == b'[' {
-        return classes::class(s, at + 1);
-    }
-    if b == b'.' {
-        return every(at + 1);
-    }
-    if b == b'\\' {
-        let c = places::byte_at(s, at + 1);
-        return one(special(c), c, at + 2);
-    }
-    one(!special(b), b, at + 1)
 }
 
-// One letter, read up to a place.
-fn one(good: bool, code: u8, at: usize) -> Named
-    ensures { (s : List ℕ) (from : ℕ) (R : Read) → Decides good (UpToCredit s from at R false (anItem code code ∷ [])) (R ≡ broken) → ReadsNamed s from R result }
+// One letter.
+fn one(code: u8) -> Named
+    ensures { Names false (item code code ∷ []) result }
 {
     Named {
-        good: good,
-        at: at,
         set: ranges::only(code),
         reversed: false,
     }
 }
 
-// All letters, read up to a place.
-fn every(at: usize) -> Named
-    ensures { (s : List ℕ) (from : ℕ) (R : Read) → UpToCredit s from at R true [] → ReadsNamed s from R result }
+// All letters.
+fn every() -> Named
+    ensures { Names true [] result }
 {
-    let none = LetterSet::empty();
     Named {
-        good: true,
-        at: at,
-        set: none.complement(),
+        set: LetterSet::all(),
         reversed: false,
     }
 }
@@ -85,92 +78,34 @@ fn every(at: usize) -> Named
 fn special(b: u8) -> bool
     ensures { result ≡ is_in b specialBytes }
 {
-    match b {
-        b'|'
-        | b'*'
-        | b'+'
-        | b'?'
-        | b'('
-        | b')'
-        | b'['
-        | b']'
-        | b'{'
-        | b'}'
-        | b'^'
-        | b'$'
-        | b'.'
-        | b'\\'
-        | b'=' => true,
-        _ => false,
-    }
+    matches!(
+        b,
+        b'|' | b'*'
+            | b'+'
+            | b'?'
+            | b'('
+            | b')'
+            | b'['
+            | b']'
+            | b'{'
+            | b'}'
+            | b'^'
+            | b'$'
+            | b'.'
+            | b'\\'
+            | b'='
+    )
 }
 
-// Letters that were read, with the credit after them.
-fn with_credit(s: &[u8], n: Named) -> Lettered
-    ensures { (from : ℕ) (R : Read) → ReadsNamed s.now from R n → ReadsAtom s.now from R result }
+// The credit at the front of a text, raised by 9: 0 where there is no `=`.
+fn credit(text: &[u8]) -> Option<(u8, &[u8])>
+    ensures { ReadsCredit (read_credit text.now) result }
 {
-    let set = n.set;
-    let hollow = set.is_empty();
-    let c = credit(s, n.at);
-    Lettered {
-        good: n.good & c.good,
-        at: c.at,
-        set: set,
-        hollow: hollow,
-        reversed: n.reversed,
-        credit: c.raised,
-    }
-}
-
-// A credit that was read: where it ends, and what it is, raised by 9. Where `good` is false the grammar is broken, and the rest
-// means nothing.
-#[derive(Clone, Copy)]
-struct CreditRead {
-    good: bool,
-    at: usize,
-    raised: u8,
-}
-
-// The credit that stands at a place of s: 0 where there is no `=`.
-fn credit(s: &[u8], at: usize) -> CreditRead
-    ensures { ReadsCredit s.now at (read_credit (drop at s.now)) result }
-{
-    if places::byte_at(s, at) != b'=' {
-        return credit_to(at, 9);
-    }
-    let d = places::byte_at(s, at + 1);
-    if credit_digit(d) {
-        return credit_to(at + 2, 9 + (d - b'0'));
-    }
-    if d != MINUS {
-        return no_credit();
-    }
-    let e = places::byte_at(s, at + 2);
-    if !credit_digit(e) {
-        return no_credit();
-    }
-    credit_to(at + 3, 9 - (e - b'0'))
-}
-
-// A credit that ends at a place.
-fn credit_to(at: usize, raised: u8) -> CreditRead
-    ensures { result ≡ credit_to at raised }
-{
-    CreditRead {
-        good: true,
-        at: at,
-        raised: raised,
-    }
-}
-
-// None that the grammar has.
-fn no_credit() -> CreditRead
-    ensures { result.good ≡ false }
-{
-    CreditRead {
-        good: false,
-        at: 0,
-        raised: 9,
+    match text {
+        [b'=', d, rest @ ..] if credit_digit(*d) => Some((9 + (*d - b'0'), rest)),
+        [b'=', MINUS, d, rest @ ..] if credit_digit(*d) => Some((9 - (*d - b'0'), rest)),
+        [b'=', ..] => None,
+        _ => Some((9, text)),
     }
 }
 
@@ -178,5 +113,5 @@ fn no_credit() -> CreditRead
 fn credit_digit(d: u8) -> bool
     ensures { result ≡ credit_digit d }
 {
-    (b'1' <= d) & (d <= b'9')
+    matches!(d, b'1'..=b'9')
 }

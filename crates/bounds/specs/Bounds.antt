@@ -1,40 +1,44 @@
 -- What reading an interval gives.
-use Rattle.std.specs.Prelude.{◌≡◌, Bool, true, List, ℕ, ◌+◌, ◌*◌, ◌<◌, ◌≤◌, length, drop}
-use Rattle.pattern.specs.Parts.{Bounds}
-use Rattle.pattern.specs.Grammar.{Bound, bound, digit_more, read_bound, Interval}
-use Rattle.bounds.specs.declared.BoundRead.{BoundRead}
+use Rattle.std.specs.Prelude.{◌≡◌, true, false, ◌&&◌, List, ℕ, ◌+◌, ◌*◌, ◌≤◌, eqb, drop, is_none, Option, unwrap_or, if◌then◌else◌}
+use Prim.Native.Char.{code}
+use Rattle.std.specs.Borrow.{Bor}
+use Rattle.pattern.specs.Parts.{Bounds, between, at_least}
+use Rattle.pattern.specs.Grammar.{peek, bound, is_digit, digit_more, read_bound, Interval, interval, no_interval}
+use Rattle.places.specs.Reads.{Reads}
 use Rattle.bounds.specs.declared.IntervalRead.{IntervalRead}
 
 -- the bounds of an interval as the rules have them
+abbrev pub upto : ℕ → Option ℕ → Bounds
+upto lower upper = record { lower = lower; upper = unwrap_or upper 0; endless = is_none upper }
+
 abbrev pub bounds_of : IntervalRead → Bounds
-bounds_of r = record { lower = r.lower; upper = r.upper; endless = r.endless }
+bounds_of i = upto i.lower i.upper
 
--- an interval that ends at a place
-abbrev pub up_to : ℕ → ℕ → ℕ → Bool → IntervalRead
-up_to at lower upper endless = record { good = true; at = at; lower = lower; upper = upper; endless = endless }
+-- value' and rest are value and text with one digit more, where there is one
+pub record OneDigitMore (value : ℕ) (text : List ℕ) (value' : ℕ) (rest : List ℕ) : Type 0 where
+  pub same : bound value' rest ≡ digit_more (bound value text)
+  pub small : value' ≤ value * 10 + 9
 
--- the bound of the rules that a result stands for, in the text s
-abbrev pub bound_of : List ℕ → BoundRead → Bound
-bound_of s b = bound b.value (drop b.at s)
+-- the bound of the rules, which begins with a digit
+pub record IsBound (text : List ℕ) (value : ℕ) (rest : List ℕ) : Type 0 where
+  pub digit : is_digit (peek text) ≡ true
+  pub same : bound value rest ≡ read_bound text
+  pub small : value ≤ 999
 
--- r is b with one digit more, where there is one
-pub record ReadsMore (s : List ℕ) (b r : BoundRead) : Type 0 where
-  pub more : bound_of s r ≡ digit_more (bound_of s b)
-  pub on : b.at ≤ r.at
-  pub within : b.at ≤ length s → r.at ≤ length s
-  pub small : r.value ≤ b.value * 10 + 9
+abbrev pub ReadsBound : List ℕ → Option (ℕ × Bor (List ℕ)) → Type 0
+ReadsBound text r = Reads r (is_digit (peek text) ≡ false) (IsBound text)
 
--- r is the bound that stands at a place
-pub record ReadsBound (s : List ℕ) (at : ℕ) (r : BoundRead) : Type 0 where
-  pub bound : bound_of s r ≡ read_bound (drop at s)
-  pub on : at ≤ r.at
-  pub within : at ≤ length s → r.at ≤ length s
-  pub small : r.value ≤ 999
+-- what the rules read after the `,` of an interval, whatever its lower bound is
+abbrev pub ends : List ℕ → ℕ → Interval
+ends text lower =
+    let n = read_bound text in
+    if eqb (peek text) (code "}") then interval (at_least lower) (drop 1 text)
+    else if is_digit (peek text) && eqb (peek n.rest) (code "}") then interval (between lower n.value) (drop 1 n.rest)
+    else no_interval
 
--- the result stands for the interval that the rules read, I, of the text s from the place at on
-pub record ReadsInterval (s : List ℕ) (at : ℕ) (I : Interval) (r : IntervalRead) : Type 0 where
-  pub same : r.good ≡ I.good
-  pub on : r.good ≡ true → at < r.at
-  pub within : r.good ≡ true → r.at ≤ length s
-  pub rest : r.good ≡ true → I.rest ≡ drop r.at s
-  pub bounds : r.good ≡ true → I.bounds ≡ bounds_of r
+abbrev pub ReadsUpper : List ℕ → Option (Option ℕ × Bor (List ℕ)) → Type 0
+ReadsUpper text r = (lower : ℕ) → Reads r (ends text lower ≡ no_interval) (λ upper rest. ends text lower ≡ interval (upto lower upper) rest)
+
+-- the result stands for the interval that the rules read, I
+abbrev pub ReadsInterval : Interval → Option (IntervalRead × Bor (List ℕ)) → Type 0
+ReadsInterval I r = Reads r (I ≡ no_interval) (λ i rest. I ≡ interval (bounds_of i) rest)

@@ -1,119 +1,79 @@
-// The interval after an atom, from the byte after its `{` on. Every function takes any bytes and any place.
+// The interval after an atom, from the byte after its `{` on. Every function reads the front of any text.
 #![tactic(auto)]
 
-ghost use Rattle.std.specs.Prelude.{◌≡◌, false, ◌≤◌, drop};
+ghost use Rattle.std.specs.Prelude.{◌≡◌, ◌≤◌};
 ghost use Rattle.pattern.specs.Parts.{out_of_bounds};
 ghost use Rattle.pattern.specs.Grammar.{is_digit, read_interval};
-ghost use Rattle.bounds.specs.Bounds.{bounds_of, up_to, ReadsMore, ReadsBound, ReadsInterval};
+ghost use Rattle.bounds.specs.Bounds.{bounds_of, OneDigitMore, ReadsBound, ReadsUpper, ReadsInterval};
 
 // What ends an interval.
 const CLOSE: u8 = b'}';
 
-// An interval that was read: where it ends, its lower bound, and its upper bound where it is not endless. Where `good` is false
-// there is none, and the rest means nothing.
+// An interval that was read: its lower bound, and its upper bound where it is not endless.
 #[derive(Clone, Copy)]
 pub struct IntervalRead {
-    pub good: bool,
-    pub at: usize,
     pub lower: usize,
-    pub upper: usize,
-    pub endless: bool,
+    pub upper: Option<usize>,
 }
 
-// The interval that stands at a place of s.
-pub fn interval(s: &[u8], at: usize) -> IntervalRead
-    ensures { ReadsInterval s.now at (read_interval (drop at s.now)) result }
+// The interval at the front of a text, and the text after it; `None` where the grammar has none there.
+pub fn interval(text: &[u8]) -> Option<(IntervalRead, &[u8])>
+    ensures { ReadsInterval (read_interval text.now) result }
 {
-    if !is_digit(places::byte_at(s, at)) {
-        return none();
+    let (lower, rest) = bound(text)?;
+    let (upper, rest) = match rest {
+        [CLOSE, rest @ ..] => (Some(lower), rest),
+        [b',', rest @ ..] => upper(rest)?,
+        _ => return None,
+    };
+    Some((IntervalRead { lower, upper }, rest))
+}
+
+// What follows the `,` of an interval: its end, or an upper bound and the end.
+fn upper(text: &[u8]) -> Option<(Option<usize>, &[u8])>
+    ensures { ReadsUpper text.now result }
+{
+    match text {
+        [CLOSE, rest @ ..] => Some((None, rest)),
+        _ => match bound(text)? {
+            (upper, [CLOSE, rest @ ..]) => Some((Some(upper), rest)),
+            _ => None,
+        },
     }
-    let m = bound(s, at);
-    let b = places::byte_at(s, m.at);
-    let exact = b == CLOSE;
-    if exact {
-        return up_to(m.at + 1, m.value, m.value, false);
-    }
-    if b != b',' {
-        return none();
-    }
-    let t = m.at + 1;
-    let c = places::byte_at(s, t);
-    if c == CLOSE {
-        return up_to(t + 1, m.value, 0, true);
-    }
-    if !is_digit(c) {
-        return none();
-    }
-    let n = bound(s, t);
-    if places::byte_at(s, n.at) != CLOSE {
-        return none();
-    }
-    up_to(n.at + 1, m.value, n.value, false)
 }
 
 // Does refusal 11 name its bounds.
 pub fn out_of_bounds(i: IntervalRead) -> bool
     ensures { result ≡ out_of_bounds (bounds_of i) }
 {
-    let upper = (i.upper == 0) | ((i.upper < i.lower) | (255 < i.upper));
-    (255 < i.lower) | (!i.endless & upper)
+    255 < i.lower
+        || i.upper
+            .is_some_and(|upper| upper == 0 || upper < i.lower || 255 < upper)
 }
 
-// An interval that ends at a place.
-fn up_to(at: usize, lower: usize, upper: usize, endless: bool) -> IntervalRead
-    ensures { result ≡ up_to at lower upper endless }
+// The bound at the front of a text: up to three digits, one at least.
+fn bound(text: &[u8]) -> Option<(usize, &[u8])>
+    ensures { ReadsBound text.now result }
 {
-    IntervalRead {
-        good: true,
-        at: at,
-        lower: lower,
-        upper: upper,
-        endless: endless,
+    match text {
+        [d, ..] if is_digit(*d) => {
+            let (one, rest) = digit_more(0, text);
+            let (two, rest) = digit_more(one, rest);
+            let three = digit_more(two, rest);
+            Some(three)
+        }
+        _ => None,
     }
 }
 
-// None that the grammar has.
-fn none() -> IntervalRead
-    ensures { result.good ≡ false }
+// A bound that is being read, with one digit more, where there is one: its value so far, and the text after it.
+fn digit_more(value: usize, text: &[u8]) -> (usize, &[u8])
+    requires { value ≤ 99 }
+    ensures { OneDigitMore value text.now result.0 result.1.now }
 {
-    IntervalRead {
-        good: false,
-        at: 0,
-        lower: 0,
-        upper: 0,
-        endless: false,
-    }
-}
-
-// A bound that is being read: its value so far, and where it goes on.
-#[derive(Clone, Copy)]
-struct BoundRead {
-    at: usize,
-    value: usize,
-}
-
-// The bound that stands at a place: up to three digits.
-fn bound(s: &[u8], at: usize) -> BoundRead
-    ensures { ReadsBound s.now at result }
-{
-    let none = BoundRead { at: at, value: 0 };
-    let one = digit_more(s, none);
-    let two = digit_more(s, one);
-    digit_more(s, two)
-}
-
-// One digit more, where there is one.
-fn digit_more(s: &[u8], b: BoundRead) -> BoundRead
-    requires { b.value ≤ 99 }
-    ensures { ReadsMore s.now b result }
-{
-    let d = places::byte_at(s, b.at);
-    if !is_digit(d) {
-        return b;
-    }
-    BoundRead {
-        at: b.at + 1,
-        value: b.value * 10 + ((d - b'0') as usize),
+    match text {
+        [d, rest @ ..] if is_digit(*d) => (value * 10 + ((*d - b'0') as usize), rest),
+        _ => (value, text),
     }
 }
 
@@ -121,5 +81,5 @@ fn digit_more(s: &[u8], b: BoundRead) -> BoundRead
 fn is_digit(d: u8) -> bool
     ensures { result ≡ is_digit d }
 {
-    (b'0' <= d) & (d <= b'9')
+    matches!(d, b'0'..=b'9')
 }

@@ -1,67 +1,63 @@
--- A class: its items, or with `^` the other letters, as the letters of an atom up to its credit. (94 is `^`.) Assumes nothing.
-use mathlib.Core.Path.{◌≡◌, refl, sym, ap, ◌∙◌, subst}
+-- A class: its items, or with `^` the other letters, as the letters of an atom up to its credit. Assumes nothing.
+use mathlib.Core.Path.{◌≡◌, refl, sym, ap, ◌∙◌}
 use mathlib.Core.Bool.{Bool, true, false, ◌&&◌, not}
 use mathlib.Core.List.{List, []}
-use Prim.Native.Nat.{ℕ, suc, ◌+◌, ◌-◌, ◌<◌}
+use Prim.Native.Nat.{ℕ, suc, ◌<◌}
+use Prim.Native.Char.{code}
 use native.Mathlib.Omega.{arith}
+use lib.Dec.{eqb}
 use lib.IntN.{pos}
 use lib.ListN.{length, drop, length-drop}
-use lib.Seq.{drop-drop}
 use borrow.Author.Tests.{eq-eqb, ne_eqb}
-use Rattle.std.specs.Prelude.{if◌then◌else◌}
+use Rattle.std.specs.Prelude.{if◌then◌else◌, Option, Some, None}
+use Rattle.std.specs.Borrow.{Bor}
+use Rattle.basics.proofs.Tests.{if_yes, if_no}
 use Rattle.alphabet.specs.Alphabet.{is_letter}
 use Rattle.letters.specs.LetterSet.{has_letter}
 use Rattle.letters.specs.declared.LetterSet.{LetterSet}
 use Rattle.pattern.specs.Parts.{atom, in_items, holds}
 use Rattle.pattern.specs.Grammar.{Read, broken, peek, Items, items_from, with_credit, read_class}
 use Rattle.classes.specs.declared.Named.{Named}
-use Rattle.classes.specs.Classes.{ReadsItems, ReadsNamed}
-
-abbrev classed : Bool → Items → Read
-classed o X = if X.good then with_credit o X.items X.rest else broken
-
-module _ (s : List ℕ) (t : ℕ) (X : Items) (n : Named) (w : ReadsItems s t X n) (o : Bool) (set : LetterSet) where
-  class_named : ((c : ℕ) → has_letter n.set c ≡ (is_letter c && in_items c X.items) → has_letter set c ≡ holds (atom o X.items (pos 0)) c) → (from : ℕ) → from < t
-      → ReadsNamed s from (classed o X) record { good = n.good; at = n.at; set = set; reversed = n.reversed }
-  class_named has from l = record {
-    yes = λ g.
-        let v = w.yes g in
-        let p = v.place in
-        record {
-          others = o;
-          items = X.items;
-          read = record {
-            same = (λ i. if v.good i then with_credit o X.items (v.rest i) else broken);
-            place = record { on = omega arith; within = p.within };
-          };
-          has = λ c. has c (v.has c);
-          turned = v.turned;
-        };
-    no = λ g. ap (λ (b : Bool). if b then with_credit o X.items X.rest else broken) (w.no g);
-  }
+use Rattle.classes.specs.Classes.{IsItems, ReadsItems, IsNamed, ReadsNamed}
 
 -- the other letters of the items
 other_letters : (a b : Bool) → (a && not (a && b)) ≡ (a && not b)
 other_letters true b = refl
 other_letters false b = refl
 
-module _ (s : List ℕ) (at : ℕ) (n : Named) (from : ℕ) (l : from < at) where
-  pub class_plain : (peek (drop at s) ≡ 94 → ⊥) → ((f : ℕ) → length s - at < f → ReadsItems s at (items_from f [] (drop at s)) n) → ReadsNamed s from (read_class (drop at s)) n
-  class_plain d w =
-      let k = length-drop at s in
-      let X = items_from (suc (length (drop at s))) [] (drop at s) in
-      subst (λ (R : Read). ReadsNamed s from R n)
-      (sym (ap (λ (o : Bool). classed o (items_from (suc (length (drop at s))) [] (if o then drop 1 (drop at s) else drop at s))) (ne_eqb (peek (drop at s)) 94 d)))
-      (class_named s at X n (w (suc (length (drop at s))) (omega arith)) false n.set (λ c h. h) from l)
+module _ (text : List ℕ) where
+  abbrev items_of : Bool → Items
+  items_of o = items_from (suc (length text)) [] (if o then drop 1 text else text)
 
-  pub class_others : (set : LetterSet) → peek (drop at s) ≡ 94 → ((f : ℕ) → length s - (at + 1) < f → ReadsItems s (at + 1) (items_from f [] (drop (at + 1) s)) n)
-      → ((c : ℕ) → has_letter set c ≡ (is_letter c && not (has_letter n.set c))) → ReadsNamed s from (read_class (drop at s)) record { good = n.good; at = n.at; set = set; reversed = n.reversed }
-  class_others set e w h =
-      let k = length-drop at s in
-      let X = items_from (suc (length (drop at s))) [] (drop (at + 1) s) in
-      subst (λ (R : Read). ReadsNamed s from R record { good = n.good; at = n.at; set = set; reversed = n.reversed })
-      (sym
-      (ap (λ (o : Bool). classed o (items_from (suc (length (drop at s))) [] (if o then drop 1 (drop at s) else drop at s))) (eq-eqb (peek (drop at s)) 94 e)
-      ∙ ap (λ (u : List ℕ). classed true (items_from (suc (length (drop at s))) [] u)) (drop-drop 1 at s)))
-      (class_named s (at + 1) X n (w (suc (length (drop at s))) (omega arith)) true set
-      (λ c p. h c ∙ ap (λ (t : Bool). is_letter c && not t) p ∙ other_letters (is_letter c) (in_items c X.items)) from (omega arith))
+  abbrev class_by : Bool → Read
+  class_by o = let x = items_of o in if x.good then with_credit o x.items x.rest else broken
+
+  module _ (o : Bool) (e : eqb (peek text) (code "^") ≡ o) where
+    named_bad : (items_of o).good ≡ false → read_class text ≡ broken
+    named_bad g = ap class_by e ∙ if_no (with_credit o (items_of o).items (items_of o).rest) broken (items_of o).good g
+
+    named : (n : Named) (rest : List ℕ) (set : LetterSet) → IsItems (items_of o) n rest → ((c : ℕ) → has_letter set c ≡ holds (atom o (items_of o).items (pos 0)) c)
+        → IsNamed (read_class text) record { set = set; reversed = n.reversed } rest
+    named n rest set w h = record {
+      others = o;
+      items = (items_of o).items;
+      same = ap class_by e ∙ if_yes (with_credit o (items_of o).items (items_of o).rest) broken (items_of o).good w.good ∙ ap (with_credit o (items_of o).items) w.after;
+      names = record { has = h; turned = w.turned };
+    }
+
+  -- without `^`
+  pub class_plain : (r : Option (Named × Bor (List ℕ))) → (peek text ≡ code "^" → ⊥) → ((f : ℕ) → length text < f → ReadsItems (items_from f [] text) r) → ReadsNamed (read_class text) r
+  class_plain None d w = named_bad false (ne_eqb (peek text) (code "^") d) (w (suc (length text)) (omega arith))
+  class_plain (Some x) d w = let v = w (suc (length text)) (omega arith) in named false (ne_eqb (peek text) (code "^") d) x.0 x.1.now x.0.set v v.has
+
+  -- with it
+  module _ (rest : List ℕ) (same : rest ≡ drop 1 text) (caret : peek text ≡ code "^") where
+    pub others_bad : ((f : ℕ) → length rest < f → (items_from f [] rest).good ≡ false) → read_class text ≡ broken
+    others_bad w = let l = length-drop 1 text in named_bad true (eq-eqb (peek text) (code "^") caret) (ap (λ (t : List ℕ). (items_from (suc (length text)) [] t).good) (sym same) ∙ w (suc (length text)) (omega (arith, ap length same)))
+
+    pub class_others : (n : Named) (left : List ℕ) (set : LetterSet) → ((f : ℕ) → length rest < f → IsItems (items_from f [] rest) n left) → ((c : ℕ) → has_letter set c ≡ (is_letter c && not (has_letter n.set c)))
+        → IsNamed (read_class text) record { set = set; reversed = n.reversed } left
+    class_others n left set w h =
+        let l = length-drop 1 text in
+        let v : IsItems (items_of true) n left = rw (← same) (w (suc (length text)) (omega (arith, ap length same))) in
+        named true (eq-eqb (peek text) (code "^") caret) n left set v (λ c. h c ∙ ap (λ (t : Bool). is_letter c && not t) (v.has c) ∙ other_letters (is_letter c) (in_items c (items_of true).items))

@@ -3,13 +3,13 @@
 use mathlib.Core.Path.{◌≡◌, refl, sym, ap, ◌∙◌}
 use mathlib.Core.Logic.{⊎_elim}
 use mathlib.Core.List.{List, [], ◌∷◌}
-use Prim.Native.Nat.{ℕ, zero, suc, ◌+◌, ◌≤◌, ◌<◌}
+use Prim.Native.Nat.{ℕ, zero, suc, ◌+◌, ◌-◌, ◌≤◌, ◌<◌}
 use native.Mathlib.Nat.{add-zero}
 use native.Mathlib.Numerals.{add-one}
 use native.Mathlib.Omega.{arith}
 use lib.Dec.{eqb, leb}
-use lib.ListN.{length, get_or, drop, length-drop, drop_of_length-le}
-use lib.Seq.{get_or-drop, drop-cons, drop-nil}
+use lib.ListN.{length, get_or, take, drop, length-drop, drop_of_length-le}
+use lib.Seq.{get_or-drop, drop-cons, drop-nil, take_all}
 use borrow.Author.Tests.{le-leb, lt-leb, eq-eqb, ne_eqb}
 use Rattle.basics.proofs.Tests.{le_or_lt}
 use Rattle.pattern.specs.Grammar.{peek}
@@ -50,3 +50,14 @@ none_left s n =
     let l = length-drop n s in
     ⊎_elim (λ h. le-leb (length s) n h ∙ sym (eq-eqb (length (drop n s)) 0 (omega arith)))
     (λ h. lt-leb (length s) n h ∙ sym (ne_eqb (length (drop n s)) 0 (λ z. omega arith))) (le_or_lt (length s) n)
+
+-- ---- by a pattern of the text's first bytes
+
+-- the text after the first k
+pub text_after : (k : ℕ) (s : List ℕ) → take (length s - k) (drop k s) ≡ drop k s
+text_after k s = let l = length-drop k s in take_all (length s - k) (drop k s) (omega arith)
+
+-- no byte of the grammar is first where there is none
+pub none_first : (s : List ℕ) (b : ℕ) → length s < 1 → peek s ≡ suc b → ⊥
+none_first [] b l e = absurd (omega arith)
+none_first (x ∷ s) b l e = absurd (omega arith)

@@ -1,4 +1,4 @@
-// A byte of a text by its place.
+// A byte of a text by its place, and the text from a place on.
 #![tactic(auto)]
 
 ghost use Rattle.std.specs.Prelude.{◌≡◌, drop};
@@ -9,4 +9,11 @@ pub fn byte_at(s: &[u8], at: usize) -> u8
     ensures { result ≡ peek (drop at s.now) }
 {
     if at < s.len() { s[at] } else { 0 }
+}
+
+// The text from a place on, none of it past its end.
+pub fn rest(s: &[u8], at: usize) -> &[u8]
+    ensures { result.now ≡ drop at s.now }
+{
+    if at < s.len() { &s[at..] } else { &[] }
 }

@@ -1,30 +1,41 @@
--- The rules go by the first byte, and so does the code: one law for each way to return. Assumes nothing.
-use lib.ListN.{drop}
-use Rattle.pattern.specs.Grammar.{read_letter}
-use Rattle.atoms.proofs.Lettering.{names_none, names_class, names_all, names_escaped, names_plain}
+-- By the first byte, as the rules go. Assumes nothing.
+use mathlib.Core.Path.{◌≡◌, refl, sym, ap, ◌∙◌}
+use mathlib.Core.Bool.{true, false, false≢true}
+use mathlib.Core.List.{List, [], ◌∷◌}
+use Prim.Native.Nat.{ℕ, ◌≤◌}
+use native.Mathlib.Omega.{arith}
+use lib.Dec.{eqb}
+use lib.ListN.{length, get_or, drop}
+use borrow.Author.Tests.{ne_eqb, ltb-false}
+use Rattle.std.proofs.Common.{rules}
+use Rattle.std.proofs.lemmas.Grind.{common_steps}
+use Rattle.basics.specs.Bytes.{is_in}
+use Rattle.pattern.specs.Parts.{item}
+use Rattle.pattern.specs.Grammar.{special, with_credit, read_letter}
+use Rattle.places.proofs.Places.{text_after}
 use Rattle.atoms.proofs.names.Goals as goal
 
-pub returns-then-s-at : goal.returns-then-s-at
-returns-then-s-at c = let a = c.args in
-    c.one.ensures a.s.now a.at (read_letter (drop a.at a.s.now)) (names_none a.s.now a.at c.if-s-at.true)
+-- a byte that is not special is none of `[`, `.` and `\`, which are
+plain : (text : List ℕ) → 1 ≤ length text → is_in (get_or text 0 0) special ≡ false
+    → read_letter text ≡ with_credit false (item (get_or text 0 0) (get_or text 0 0) ∷ []) (drop 1 text)
+plain [] l e = absurd (omega arith)
+plain (b ∷ text) l e = rw (e, differs 91 refl, differs 46 refl, differs 92 refl)
+  where
+    differs : (k : ℕ) → is_in k special ≡ true → eqb b k ≡ false
+    differs k i = ne_eqb b k (λ z. false≢true (sym e ∙ ap (λ (x : ℕ). is_in x special) z ∙ i))
 
-pub returns-then-b-eq91 : goal.returns-then-b-eq91
-returns-then-b-eq91 c = let a = c.args in
-    names_class a.s.now a.at c.if-s-at.false c.class.result c.if-b-eq91.true c.class.ensures
+pub returns-in-46 : goal.returns-in-46
+returns-in-46 c = record { others = true; items = []; same = grind (arith, common_steps); names = c.every.ensures }
 
-pub returns-then-b-eq46 : goal.returns-then-b-eq46
-returns-then-b-eq46 c = let a = c.args in
-    c.every.ensures a.s.now a.at (read_letter (drop a.at a.s.now)) (names_all a.s.now a.at c.if-s-at.false c.if-b-eq91.false c.if-b-eq46.true)
+pub returns-in-92 : goal.returns-in-92
+returns-in-92 c = record { others = false; items = item (get_or c.args.text.now 1 0) (get_or c.args.text.now 1 0) ∷ []; same = grind (arith, common_steps); names = c.one.ensures }
 
-pub returns-then-b-eq92 : goal.returns-then-b-eq92
-returns-then-b-eq92 c = let a = c.args in
-    let b = c.byte_at-c in
-    let t = c.special in
-    c.one-then-b-eq92.ensures a.s.now a.at (read_letter (drop a.at a.s.now))
-    (names_escaped a.s.now a.at c.if-s-at.false c.if-b-eq91.false c.if-b-eq46.false c.if-b-eq92.true b.result t.result b.ensures t.ensures)
-
-pub returns : goal.returns
-returns c = let a = c.args in
-    let t = c.special-2 in
-    c.one-2.ensures a.s.now a.at (read_letter (drop a.at a.s.now))
-    (names_plain a.s.now a.at c.if-s-at.false c.if-b-eq91.false c.if-b-eq46.false c.if-b-eq92.false t.result t.ensures)
+pub returns-in-len1-up : goal.returns-in-len1-up
+returns-in-len1-up c = record {
+  others = false;
+  items = item (get_or c.args.text.now 0 0) (get_or c.args.text.now 0 0) ∷ [];
+  same =
+      plain c.args.text.now (ltb-false (length c.args.text.now) 1 (search rules)) (sym c.special-2.ensures ∙ c.if-not-special.true)
+      ∙ ap (with_credit false (item (get_or c.args.text.now 0 0) (get_or c.args.text.now 0 0) ∷ [])) (sym (text_after 1 c.args.text.now));
+  names = c.one-in-len1-up.ensures;
+}

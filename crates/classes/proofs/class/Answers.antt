@@ -1,17 +1,23 @@
--- The items after `^` start one place on, and their set is turned into the other letters. Assumes nothing.
-use mathlib.Core.Path.{sym, ◌∙◌}
-use native.Mathlib.Omega.{arith}
-use Rattle.places.proofs.Places.{byte_within}
-use Rattle.classes.proofs.Classing.{class_plain, class_others}
+-- With `^` and without. Assumes nothing.
+use Rattle.std.proofs.Common.{rules}
+use lib.ListN.{length}
+use borrow.Author.Tests.{ltb-true}
+use Rattle.places.proofs.Places.{text_after, none_first}
+use Rattle.classes.proofs.Classing.{class_plain, others_bad, class_others}
 use Rattle.classes.proofs.class.Goals as goal
+use Rattle.classes.proofs.class.Goals.{in_default-via-then-text-lt1, in_default-via-else-text-lt1+in_default-1}
 
-pub returns-then-byte_at-ne94 : goal.returns-then-byte_at-ne94
-returns-then-byte_at-ne94 c = λ from l. class_plain c.args.s.now c.args.at c.items.result from l (λ e. c.if-byte_at-ne94.true (c.byte_at.ensures ∙ e)) c.items.ensures
+pub returns-in_err-named-in-94 : goal.returns-in_err-named-in-94
+returns-in_err-named-in-94 c = rw c.from_residual.ensures (others_bad c.args.text.now _ (text_after 1 _) (search rules) c.in_err-named-in-94.ensures)
 
-pub overflow_add-at : goal.overflow_add-at
-overflow_add-at c = let w = byte_within c.args.s.now c.args.at 93 (sym c.byte_at.ensures ∙ c.if-byte_at-ne94.false) in omega arith
+pub returns-in_ok-named-in-94 : goal.returns-in_ok-named-in-94
+returns-in_ok-named-in-94 c = class_others c.args.text.now _ (text_after 1 _) (search rules) _ _ _ c.in_ok-named-in-94.ensures c.complement.ensures
 
-pub returns : goal.returns
-returns c = let a = c.args in
-    let n = c.items-n in
-    λ from l. class_others a.s.now a.at n.result from l c.complement-others.result (sym c.byte_at.ensures ∙ c.if-byte_at-ne94.false) n.ensures c.complement-others.ensures
+pub returns-in_default : goal.returns-in_default
+returns-in_default c =
+    class_plain c.args.text.now _
+    (elim c.in_default.branch [
+      | in_default-via-then-text-lt1 w ↦ none_first c.args.text.now _ (ltb-true (length c.args.text.now) 1 (search rules))
+      | in_default-via-else-text-lt1+in_default-1 w ↦ search rules
+    ])
+    c.items-in_default.ensures

@@ -1,28 +1,29 @@
--- The loop's invariant: whatever results from reading on from here, with the set and the flags so far, is what the rules read
--- from the start. The measure is what is left of the text. Assumes nothing.
-use mathlib.Core.List.{[]}
+-- Each turn reads one item. Assumes nothing.
+use Rattle.std.proofs.Common.{rules}
 use native.Mathlib.Omega.{arith}
-use Rattle.classes.proofs.Members.{sofar_none, read_one, read_end}
-use Rattle.std.proofs.lemmas.Bool.{not-false as not_is_false, not-true as not_is_true}
+use lib.ListN.{length}
+use borrow.Author.Tests.{ltb-true}
+use Rattle.places.proofs.Places.{text_after, none_first}
+use Rattle.classes.proofs.Members.{sofar_none, sofar_bad, sofar_next, sofar_end}
 use Rattle.classes.proofs.items.Goals as goal
 
-pub loop-set-init : goal.loop-set-init
-loop-set-init c = λ r next f l. next f [] l (sofar_none c.empty-set.result c.empty-set.ensures)
+pub loop-item-init : goal.loop-item-init
+loop-item-init c = λ f l. sofar_none f c.args.text.now c.empty-set.result l c.empty-set.ensures
 
-pub returns-then-not-i : goal.returns-then-not-i
-returns-then-not-i c = let at = c.loop-set in
-    let i = c.item-i in
-    at.invariant _ (read_end c.args.s.now at.t at.set at.any at.reversed i.result (i.ensures.no (not_is_true c.item-i.result.more c.if-not-i.true)))
+pub returns-in_err-item : goal.returns-in_err-item
+returns-in_err-item c = λ f l. rw c.from_residual.ensures (sofar_bad _ _ _ _ (c.loop-item.invariant f l) c.in_err-item.ensures)
 
-pub loop-set-smaller : goal.loop-set-smaller
-loop-set-smaller c = let i = c.item-i in
-    let w = (i.ensures.yes (not_is_false c.item-i.result.more c.if-not-i.false)).place in
-    omega arith
+pub returns-in-93 : goal.returns-in-93
+returns-in-93 c = λ f l. sofar_end _ _ c.in_ok-item.rest.now _ _ _ _ _ (c.loop-item.invariant f l) c.in_ok-item.ensures c.range.ensures c.union-set.ensures _ (search rules) (text_after 1 _)
 
-pub loop-set-preserved : goal.loop-set-preserved
-loop-set-preserved c = let at = c.loop-set in
-    let i = c.item-i in
-    let range = c.range-more in
-    let joined = c.union-set in
-    let more = i.ensures.yes (not_is_false c.item-i.result.more c.if-not-i.false) in
-    λ r next. at.invariant r (read_one c.args.s.now at.t at.set at.any at.reversed i.result range.result joined.result more range.ensures joined.ensures r next)
+pub loop-item-smaller : goal.loop-item-smaller
+loop-item-smaller c = let o = c.in_ok-item.ensures.shorter in omega arith
+
+pub loop-item-preserved : goal.loop-item-preserved
+loop-item-preserved c = λ f l. sofar_next _ _ c.in_ok-item.rest.now _ _ _ _ _ (c.loop-item.invariant f l) c.in_ok-item.ensures c.range.ensures c.union-set.ensures (search rules)
+
+pub loop-item-preserved-then-rest-lt1 : goal.loop-item-preserved-then-rest-lt1
+loop-item-preserved-then-rest-lt1 c = λ f l. sofar_next _ _ c.in_ok-item.rest.now _ _ _ _ _ (c.loop-item.invariant f l) c.in_ok-item.ensures c.range.ensures c.union-set.ensures (none_first c.in_ok-item.rest.now _ (ltb-true (length c.in_ok-item.rest.now) 1 (search rules)))
+
+pub loop-item-smaller-then-rest-lt1 : goal.loop-item-smaller-then-rest-lt1
+loop-item-smaller-then-rest-lt1 c = let o = c.in_ok-item.ensures.shorter in omega arith

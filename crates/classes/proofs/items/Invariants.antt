@@ -1,16 +1,13 @@
--- The loop's invariant: whatever results from reading on from here, with the set and the flags so far, is what the rules read
--- from the start. The measure is what is left of the text. Assumes nothing.
+-- The items read so far begin those that the rules read. The measure is what is left of the text. Assumes nothing.
+use Prim.Native.Nat.{ℕ, ◌<◌}
 use mathlib.Core.List.{[]}
-use Prim.Native.Nat.{ℕ, ◌-◌, ◌<◌}
-use lib.ListN.{length, drop}
+use lib.ListN.{length}
 use Rattle.pattern.specs.Grammar.{items_from}
-use Rattle.classes.specs.declared.Named.{Named}
-use Rattle.classes.specs.Classes.{ReadsItems}
-use Rattle.classes.proofs.Members.{ReadsOn}
+use Rattle.classes.proofs.Members.{Sofar}
 use Rattle.classes.proofs.items.Given as goal
 
-abbrev pub invariant-loop-set : goal.invariant-loop-set
-invariant-loop-set l = (r : Named) → ReadsOn l.s l.t l.set l.any l.reversed r → (f : ℕ) → length l.s - l.at < f → ReadsItems l.s l.at (items_from f [] (drop l.at l.s)) r
+abbrev pub invariant-loop-item : goal.invariant-loop-item
+invariant-loop-item l = (f : ℕ) → length l.text < f → Sofar (items_from f [] l.text) l.left l.set l.reversed
 
-abbrev pub decreases-loop-set : goal.decreases-loop-set
-decreases-loop-set l = length l.s - l.t
+abbrev pub decreases-loop-item : goal.decreases-loop-item
+decreases-loop-item l = length l.left

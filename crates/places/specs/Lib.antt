@@ -1,0 +1,2 @@
+-- What a function gives that reads the front of a text.
+pub mod Reads
