@@ -3,7 +3,7 @@
 use mathlib.Core.Path.{◌≡◌, refl, sym, ap, ◌∙◌, subst}
 use mathlib.Core.Bool.{Bool, true, false, ◌&&◌, ◌||◌, and-false, true≢false}
 use mathlib.Core.List.{List}
-use Prim.Native.Nat.{ℕ, ◌+◌, ◌<◌, ◌≤◌, min}
+use Prim.Native.Nat.{ℕ, ◌+◌, ◌-◌, ◌<◌, ◌≤◌, min}
 use Prim.Native.Char.{code}
 use native.Mathlib.Omega.{arith}
 use borrow.Author.Tests.{eq-eqb, ne_eqb}
@@ -13,11 +13,12 @@ use lib.Seq.{drop-drop}
 use Rattle.std.specs.Prelude.{if◌then◌else◌}
 use Rattle.basics.proofs.Tests.{by_test, and_when}
 use Rattle.bits.specs.Bits.{has_bit}
-use Rattle.pattern.specs.Parts.{Repeat, skips, loops, is_misbounded, Part, again}
-use Rattle.pattern.specs.Grammar.{Read, read, broken, peek}
+use Rattle.pattern.specs.Parts.{Repeat, skips, loops, is_misbounded, Part, letter, again}
+use Rattle.pattern.specs.Grammar.{Read, read, broken, peek, read_letter}
 use Rattle.atoms.specs.declared.Lettered.{Lettered}
-use Rattle.atoms.specs.Atoms.{ReadsAtom}
+use Rattle.atoms.specs.Atoms.{IsRead}
 use Rattle.places.proofs.Places.{next_within}
+use Rattle.places.proofs.Rests.{letter_left}
 use Rattle.parsed.specs.declared.Parsed.{Parsed}
 use Rattle.parsed.specs.declared.Tables.{Tables}
 use Rattle.links.specs.Rows.{Marks, LinksMore}
@@ -35,22 +36,25 @@ stands_not s at n m m' good x rest r e h = record { same = e ∙ sym h; gives = 
 
 -- ---- a lettered atom
 
-pub letter_stands : (s : List ℕ) (at n own count : ℕ) (tables tables' : Tables) (R : Read) (l : Lettered) → ReadsAtom s at R l → l.good ≡ true → count ≡ min (n + 1) 61 → (n + 1 ≤ 60 → Marks own (λ b. eqb b (n + 1)))
-    → length tables.credits ≡ 61 → (n + 1 ≤ 60 → Filled (n + 1) l.set l.credit tables tables')
-    → Letters s at n tables tables' R record { good = true; at = l.at; n = count; empty = false; firsts = own; lasts = own; reversed = l.reversed; hollow = l.hollow; misbounded = false; doubled = false }
-letter_stands s at n own count tables tables' R l w g cuts m long put rows more =
-    let made : Parsed = record { good = true; at = l.at; n = count; empty = false; firsts = own; lasts = own; reversed = l.reversed; hollow = l.hollow; misbounded = false; doubled = false } in
-    let is = w.has g in
+pub letter_stands : (s : List ℕ) (at n own count : ℕ) (tables tables' : Tables) (rest : List ℕ) (l : Lettered) → IsRead (read_letter (drop at s)) l rest → count ≡ min (n + 1) 61
+    → (n + 1 ≤ 60 → Marks own (λ b. eqb b (n + 1))) → length tables.credits ≡ 61 → (n + 1 ≤ 60 → Filled (n + 1) l.set l.credit tables tables')
+    → Letters s at n tables tables' (read_letter (drop at s))
+    record { good = true; at = length s - length rest; n = count; empty = false; firsts = own; lasts = own; reversed = l.reversed; hollow = l.hollow; misbounded = false; doubled = false }
+letter_stands s at n own count tables tables' rest l w cuts m long put rows more =
+    let is = w.atom in
+    let place = letter_left s at (letter w.what) rest w.same in
+    let short = place.short in
+    let on = place.on in
+    stands_as s at n _ _ _ w.same
     record {
-      same = sym g ∙ w.same;
+      same = refl;
       gives = λ _. record {
-        on = w.on g;
-        within = w.within g;
-        goes = w.rest g;
+        on = omega arith;
+        within = omega arith;
+        goes = place.goes;
         has =
-            subst (λ (p : Part). Has n (memory rows more tables) (memory rows more tables') (shape_of p) made) (sym is.part)
-            (has_read_letter n rows more tables tables' is.what l.at count own l.reversed l.hollow cuts m is.turned is.hollow
-            (λ h al e st. one_stored al is.what (n + 1) l.set l.credit tables tables' long (omega arith) h (put h) is.has is.credit is.small st));
+            has_read_letter n rows more tables tables' w.what _ count own l.reversed l.hollow cuts m is.turned is.hollow
+            (λ h al e st. one_stored al w.what (n + 1) l.set l.credit tables tables' long (omega arith) h (put h) is.has is.credit is.small st);
       };
     }
 

@@ -167,13 +167,13 @@ pub fn letter(s: &[u8], at: usize, n: usize, tables: &mut Tables) -> Parsed
     requires { n ≤ 61 }
     ensures { Letters s.now at n tables.old tables.new (read_letter (drop at s.now)) result }
 {
-    let a = atoms::atom(s, at);
-    if !a.good {
+    let Some((a, rest)) = atoms::atom(places::rest(s, at)) else {
         return Parsed {
             good: false,
             ..Parsed::nothing(at, n, false)
         };
-    }
+    };
+    let end = s.len() - rest.len();
     let k = (n + 1).min(61);
     if k < ROWS {
         set_table::write(&mut tables.sets, k, a.set);
@@ -182,7 +182,7 @@ pub fn letter(s: &[u8], at: usize, n: usize, tables: &mut Tables) -> Parsed
     let own = links::position(k);
     Parsed {
         good: true,
-        at: a.at,
+        at: end,
         n: k,
         empty: false,
         firsts: own,

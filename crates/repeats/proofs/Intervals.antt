@@ -1,7 +1,7 @@
 -- An interval that was read after an atom: written out, it has the atom's copies. Where there is no room for them nothing is kept but
 -- that; where refusal 11 names it, the atom stays as it is. Assumes nothing.
 use mathlib.Core.Path.{◌≡◌, refl, sym, ap, ◌∙◌, subst}
-use mathlib.Core.Bool.{Bool, true, false, ◌||◌, not, or_self}
+use mathlib.Core.Bool.{Bool, true, false, ◌||◌, not, or_self, true≢false, false≢true}
 use mathlib.Core.List.{List, [], ◌∷◌, ◌++◌, append_assoc}
 use mathlib.Core.Logic.{⊎_elim}
 use Prim.Native.Nat.{ℕ, zero, suc, ◌+◌, ◌-◌, ◌*◌, ◌≤◌, ◌<◌, max}
@@ -10,6 +10,7 @@ use native.Mathlib.Omega.{arith}
 use borrow.Author.Tests.{ltb-true, ltb-false}
 use lib.Dec.{ltb}
 use lib.ListN.{length, drop}
+use Rattle.std.specs.Prelude.{Option, Some, None, is_some, is_none}
 use Rattle.basics.proofs.Tests.{by_test, or_parts, or_cases, if_yes, if_no, le_or_lt}
 use Rattle.alphabet.specs.Alphabet.{some_letter}
 use Rattle.copies.specs.Copies as Copies
@@ -17,11 +18,9 @@ use Rattle.set_table.specs.Table.{Repeats}
 use Rattle.pattern.specs.Parts.{Atom, holds, Part, Bounds, out_of_bounds, written_out}
 use Rattle.pattern.proofs.Own.{some_position}
 use Rattle.pattern.proofs.Written.{in_bounds, written_refused}
-use Rattle.pattern.specs.Grammar.{Read, read, broken, Interval, with_interval}
+use Rattle.pattern.specs.Grammar.{Read, read}
 use Rattle.pattern.specs.Positions.{atoms, positions, links}
 use Rattle.pattern.specs.Refusals.{some_reversed, any_reversed, any_empty}
-use Rattle.bounds.specs.declared.IntervalRead.{IntervalRead}
-use Rattle.bounds.specs.Bounds.{bounds_of, ReadsInterval}
 use Rattle.links.specs.Rows.{Adds, Counts}
 use Rattle.parsed.specs.declared.Parsed.{Parsed}
 use Rattle.parsed.specs.declared.Tables.{Tables}
@@ -29,7 +28,6 @@ use Rattle.parsed.specs.Tables.{Stored}
 use Rattle.parsed.specs.Parsed.{Shape, shape_of, Memory, memory, Keeps, Has, Stands}
 use Rattle.parsed.proofs.Shapes.{owns_part}
 use Rattle.parsed.proofs.Joining.{any_both}
-use Rattle.parsed.proofs.Standing.{stands_as, stands_not}
 use Rattle.chains.specs.Chains.{how_many, Chains}
 use Rattle.chains.proofs.Chains.{chain, chain_length, interval, written}
 use Rattle.repeats.specs.Repeats.{Placed}
@@ -39,6 +37,13 @@ use Rattle.repeats.proofs.Tables.{with, stored_copies}
 
 pub placed : (n : ℕ) (m m' : Memory) (p : Part) (r : Parsed) → n ≤ 61 → Has n m m' (shape_of p) r → Placed n r
 placed n m m' p r low h = let c = h.count in let s = some_position p in record { on = omega arith; cut = omega arith; some = λ l. omega arith }
+
+-- without an upper bound
+pub is_endless : (o : Option ℕ) (endless : Bool) → is_some o ≡ not endless → endless ≡ is_none o
+is_endless None true e = refl
+is_endless None false e = absurd (false≢true e)
+is_endless (Some k) true e = absurd (true≢false e)
+is_endless (Some k) false e = refl
 
 -- how many copies there are, where a test says that the bounds are not named
 pub many : (b : Bounds) (k : ℕ) (named : Bool) → k ≡ how_many b → named ≡ out_of_bounds b → named ≡ false → (0 < k) × (k ≤ 255)
@@ -194,21 +199,8 @@ module _ (n : ℕ) (m now : Memory) (p : Parsed) (q : Part) (h : Has n m now (sh
 
 -- ---- what the result stands for
 
-module _ (s : List ℕ) (at n : ℕ) (m now now' : Memory) (R : Read) (I : Interval) (p r : Parsed) (i : IntervalRead) (w : Stands s at n m now R p) (g : p.good ≡ true) (read_is : ReadsInterval s (p.at + 1) I i) where
-  pub written_not : i.good ≡ false → r.good ≡ false → Stands s at n m now' (with_interval R.part I) r
-  written_not e f =
-      stands_as s at n m now' r (if_no (read (written_out I.bounds R.part) I.rest) broken I.good (sym read_is.same ∙ e))
-      (stands_not s at n m now' false (shape_of broken.part) broken.rest r f refl)
-
-  pub written_stands : i.good ≡ true → r.good ≡ true → r.at ≡ i.at → (Has n m now (shape_of R.part) p → Has n m now' (shape_of (written_out (bounds_of i) R.part)) r)
-      → Stands s at n m now' (with_interval R.part I) r
-  written_stands e f place has =
-      let v = w.gives g in
-      let on = read_is.on e in
-      let within = read_is.within e in
-      stands_as s at n m now' r
-      (if_yes (read (written_out I.bounds R.part) I.rest) broken I.good (sym read_is.same ∙ e) ∙ (λ t. read (written_out (read_is.bounds e t) R.part) I.rest))
-      record {
-        same = f;
-        gives = λ _. record { on = let o = v.on in omega arith; within = omega arith; goes = read_is.rest e ∙ ap (λ (k : ℕ). drop k s) (sym place); has = has v.has };
-      }
+pub written_stands : (s : List ℕ) (from n : ℕ) (m now now' : Memory) (R : Read) (p r : Parsed) (b : Bounds) (at : ℕ) → Stands s from n m now R p → p.good ≡ true → p.at < at → at ≤ length s → r.good ≡ true → r.at ≡ at
+    → (Has n m now (shape_of R.part) p → Has n m now' (shape_of (written_out b R.part)) r) → Stands s from n m now' (read (written_out b R.part) (drop at s)) r
+written_stands s from n m now now' R p r b at w g on within f place has =
+    let v = w.gives g in
+    record { same = f; gives = λ _. record { on = let o = v.on in omega arith; within = omega arith; goes = ap (λ (k : ℕ). drop k s) (sym place); has = has v.has } }

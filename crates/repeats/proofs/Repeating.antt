@@ -1,26 +1,27 @@
 -- What a result stands for once it is repeated: by the byte after it, which is the grammar's byte too. Assumes nothing.
-use mathlib.Core.Path.{◌≡◌, sym, ap, ap₂, ◌∙◌}
+use mathlib.Core.Path.{◌≡◌, refl, sym, ap, ap₂, ◌∙◌}
 use mathlib.Core.Bool.{Bool, true, false, ◌&&◌, not}
 use mathlib.Core.List.{List}
-use Prim.Native.Nat.{ℕ, ◌+◌, ◌<◌}
+use Prim.Native.Nat.{ℕ, ◌+◌, ◌-◌, ◌≤◌, ◌<◌}
 use Prim.Native.Char.{code}
 use native.Mathlib.Omega.{arith}
 use borrow.Author.Tests.{ne_eqb, not-true, not-false}
 use lib.Dec.{eqb}
-use lib.ListN.{drop}
+use lib.ListN.{length, drop}
 use lib.Seq.{drop-drop}
 use Rattle.std.specs.Prelude.{if◌then◌else◌}
 use Rattle.places.proofs.Places.{next_within}
-use Rattle.pattern.specs.Parts.{optional, star, plus, again}
-use Rattle.pattern.specs.Grammar.{Read, read, peek, read_interval, with_interval, repeated}
+use Rattle.places.proofs.Rests.{interval_left}
+use Rattle.pattern.specs.Parts.{optional, star, plus, again, written_out}
+use Rattle.pattern.specs.Grammar.{Read, read, broken, peek, interval, no_interval, read_interval, with_interval, repeated}
 use Rattle.bounds.specs.declared.IntervalRead.{IntervalRead}
-use Rattle.bounds.specs.Bounds.{ReadsInterval}
+use Rattle.bounds.specs.Bounds.{bounds_of}
 use Rattle.parsed.specs.declared.Parsed.{Parsed}
 use Rattle.parsed.specs.declared.Tables.{Tables}
 use Rattle.parsed.specs.declared.Repeat.{Repeat}
 use Rattle.parsed.specs.declared.Repeat.TheVariants.{Optional, Star, Plus}
-use Rattle.parsed.specs.Parsed.{Memory, memory, Stands, rule_of, Repeats}
-use Rattle.parsed.proofs.Standing.{stands_as}
+use Rattle.parsed.specs.Parsed.{shape_of, Memory, memory, Stands, rule_of, Repeats}
+use Rattle.parsed.proofs.Standing.{stands_as, stands_not}
 use Rattle.repeats.specs.Repeats.{WritesOut}
 
 -- what the grammar makes of a repeat, by that byte
@@ -72,8 +73,20 @@ module _ (s : List ℕ) (at n : ℕ) (m : Memory) (rows more : List ℕ) (tables
     pub repeat_not : (b ≡ code "?" → ⊥) → (b ≡ code "*" → ⊥) → (b ≡ code "+" → ⊥) → (b ≡ code "{" → ⊥) → Stands s at n m (memory rows more tables) (repeated R) p
     repeat_not one any some times = stands_as s at n m _ p (by_byte ∙ repeated_none R b one any some times) w
 
-    pub repeat_times : (now' : Memory) (r : Parsed) (i : IntervalRead) → b ≡ code "{" → ReadsInterval s (p.at + 1) (read_interval (drop (p.at + 1) s)) i → WritesOut n i (memory rows more tables) now' p r → Stands s at n m now' (repeated R) r
-    repeat_times now' r i e read_is writes =
-        stands_as s at n m now' r
-        (by_byte ∙ ap (repeated_by R true) e ∙ ap (λ (l : List ℕ). with_interval R.part (read_interval l)) (ap (drop 1) (w.gives good).goes ∙ drop-drop 1 p.at s))
-        (writes s at m R (read_interval (drop (p.at + 1) s)) good w read_is)
+    -- an interval, or none
+    module _ (e : b ≡ code "{") where
+      by_interval : repeated R ≡ with_interval R.part (read_interval (drop (p.at + 1) s))
+      by_interval = by_byte ∙ ap (repeated_by R true) e ∙ ap (λ (l : List ℕ). with_interval R.part (read_interval l)) (ap (drop 1) (w.gives good).goes ∙ drop-drop 1 p.at s)
+
+      inside : p.at + 1 ≤ length s
+      inside = let h = next_within s p.at (omega arith) in omega arith
+
+      pub repeat_none : (r : Parsed) → r.good ≡ false → read_interval (drop (p.at + 1) s) ≡ no_interval → Stands s at n m (memory rows more tables) (repeated R) r
+      repeat_none r f none = stands_as s at n m _ r (by_interval ∙ ap (with_interval R.part) none) (stands_not s at n m _ false (shape_of broken.part) broken.rest r f refl)
+
+      pub repeat_times : (now' : Memory) (r : Parsed) (i : IntervalRead) (rest : List ℕ) → read_interval (drop (p.at + 1) s) ≡ interval (bounds_of i) rest
+          → WritesOut n i (length s - length rest) (memory rows more tables) now' p r → Stands s at n m now' (repeated R) r
+      repeat_times now' r i rest is writes =
+          let place = interval_left s (p.at + 1) (bounds_of i) rest inside is in
+          stands_as s at n m now' r (by_interval ∙ ap (with_interval R.part) is ∙ ap (read (written_out (bounds_of i) R.part)) place.goes)
+          (writes s at m R good w (let on = place.on in omega arith) (omega arith))

@@ -32,33 +32,31 @@ pub fn repeat(
         b'*' => p.again(rows, more, Repeat::Star),
         b'+' => p.again(rows, more, Repeat::Plus),
         b'{' => {
-            let i = bounds::interval(s, p.at + 1);
-            interval(n, p, i, rows, tables, more)
+            let Some((i, rest)) = bounds::interval(places::rest(s, p.at + 1)) else {
+                return Parsed { good: false, ..p };
+            };
+            let end = s.len() - rest.len();
+            interval(n, p, i, end, rows, tables, more)
         }
         _ => p,
     }
 }
 
-// An atom with its interval: written out in copies, where refusal 11 does not name it and there are no more than 60 positions.
+// An atom with its interval, which ends at a place: written out in copies, where refusal 11 does not name it and there are no more than
+// 60 positions.
 fn interval(
     n: usize,
     p: Parsed,
     i: IntervalRead,
+    at: usize,
     rows: &mut [u64; 61],
     tables: &mut Tables,
     more: &mut [u8; 3721],
 ) -> Parsed
     requires { Placed n p }
-    ensures { WritesOut n i (memory rows.old more.old tables.old) (memory rows.new more.new tables.new) p result }
+    ensures { WritesOut n i at (memory rows.old more.old tables.old) (memory rows.new more.new tables.new) p result }
 {
-    let read = Parsed {
-        good: i.good,
-        at: i.at,
-        ..p
-    };
-    if !i.good {
-        return read;
-    }
+    let read = Parsed { at, ..p };
     if bounds::out_of_bounds(i) {
         return Parsed {
             misbounded: true,
@@ -73,12 +71,12 @@ fn interval(
     let end = n + 1 + (copies - 1) * w;
     set_table::repeat(&mut tables.sets, n + 1, end, w);
     copies::entries(&mut tables.credits, n + 1, end, w);
-    chains::chain(read, w, copies, i.lower, i.endless, rows, more)
+    chains::chain(read, w, copies, i.lower, i.upper.is_none(), rows, more)
 }
 
 // How many copies an interval has.
 fn how_many(i: IntervalRead) -> usize
     ensures { result ≡ how_many (bounds_of i) }
 {
-    if i.endless { i.lower.max(1) } else { i.upper }
+    i.upper.unwrap_or(i.lower.max(1))
 }

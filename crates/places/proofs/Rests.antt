@@ -1,0 +1,136 @@
+-- What the rules leave of a text is the end of it, whatever they read. Assumes nothing.
+use mathlib.Core.Path.{◌≡◌, sym, ap, ◌∙◌, subst}
+use mathlib.Core.Logic.{⊎_elim}
+use mathlib.Core.Bool.{Bool, true, false, ◌&&◌, not, true≢false}
+use mathlib.Core.List.{List, [], ◌∷◌, ◌++◌, append-nil, append_assoc}
+use Prim.Native.Nat.{ℕ, zero, suc, ◌+◌, ◌-◌, ◌≤◌}
+use Prim.Native.Char.{code}
+use native.Mathlib.Omega.{arith}
+use lib.Dec.{eqb}
+use lib.ListN.{length, take, drop, get_or, length-append, take-append-drop, length-drop, drop_of_length-le}
+use lib.Seq.{drop-append_seam}
+use Rattle.std.specs.Prelude.{if◌then◌else◌}
+use Rattle.basics.specs.Bytes.{is_in}
+use Rattle.basics.proofs.Tests.{if_either, le_or_lt}
+use Rattle.places.proofs.Places.{drop_first}
+use Rattle.pattern.specs.Parts.{Item, Bounds, Part}
+use Rattle.pattern.specs.Grammar.{Read, read, peek, special, class_letter, class_letter_long, Items, items_from, Credit, credit_digit, read_credit, with_credit, read_class, read_letter, Bound, bound, is_digit, digit_more, read_bound, Interval, interval, read_interval}
+
+-- rest is the end of text
+pub record Ends (text rest : List ℕ) : Type 0 where
+  pub taken : List ℕ
+  pub is : text ≡ taken ++ rest
+
+ends_drop : (k : ℕ) (text : List ℕ) → Ends text (drop k text)
+ends_drop k text = record { taken = take k text; is = sym (take-append-drop k text) }
+
+ends_whole : (text : List ℕ) → Ends text text
+ends_whole text = ends_drop 0 text
+
+ends_none : (text : List ℕ) → Ends text []
+ends_none text = record { taken = text; is = sym (append-nil text) }
+
+ends_more : {a b c : List ℕ} → Ends a b → Ends b c → Ends a c
+ends_more {c = c} x y = record { taken = x.taken ++ y.taken; is = x.is ∙ ap (λ (t : List ℕ). x.taken ++ t) y.is ∙ sym (append_assoc x.taken y.taken c) }
+
+-- ---- the place where the rest begins
+
+pub ends_at : {text rest : List ℕ} → Ends text rest → rest ≡ drop (length text - length rest) text
+ends_at {text} {rest} e =
+    let l = length-append e.taken rest in
+    let k : length text - length rest ≡ length e.taken = omega (arith, ap length e.is) in
+    sym (ap (λ (n : ℕ). drop n text) k ∙ ap (drop (length e.taken)) e.is ∙ drop-append_seam e.taken rest)
+
+pub ends_length : {text rest : List ℕ} → Ends text rest → length rest ≤ length text
+ends_length {text} {rest} e = omega (arith, ap length e.is, length-append e.taken rest)
+
+-- ---- the rules
+
+items_ends : (f : ℕ) (is : List Item) (text : List ℕ) → Ends text (items_from f is text).rest
+items_ends zero is text = ends_none text
+items_ends (suc f) is text =
+    let t = drop (class_letter_long text) text in
+    let u = drop (suc (class_letter_long (drop 1 t))) t in
+    let P : Items → Type 0 = λ X. Ends text X.rest in
+    if_either P _ _ (eqb (class_letter text) 0) (λ _. ends_drop 1 text)
+    (λ _.
+    if_either P _ _ (eqb (peek t) (code "-"))
+    (λ _.
+    if_either P _ _ (eqb (class_letter (drop 1 t)) 0) (λ _. ends_none text)
+    (λ _. ends_more (ends_drop (class_letter_long text) text) (ends_more (ends_drop (suc (class_letter_long (drop 1 t))) t) (items_ends f _ u))))
+    (λ _. ends_more (ends_drop (class_letter_long text) text) (items_ends f _ t)))
+
+credit_ends : (text : List ℕ) → Ends text (read_credit text).rest
+credit_ends text =
+    let d = get_or text 1 0 in
+    let P : Credit → Type 0 = λ C. Ends text C.rest in
+    if_either P _ _ (not (eqb (peek text) (code "="))) (λ _. ends_whole text)
+    (λ _. if_either P _ _ (credit_digit d) (λ _. ends_drop 2 text) (λ _. if_either P _ _ (eqb d (code "-") && credit_digit (get_or text 2 0)) (λ _. ends_drop 3 text) (λ _. ends_none text)))
+
+with_credit_ends : (o : Bool) (is : List Item) (text : List ℕ) → Ends text (with_credit o is text).rest
+with_credit_ends o is text = if_either (λ (R : Read). Ends text R.rest) _ _ (read_credit text).good (λ _. credit_ends text) (λ _. ends_none text)
+
+class_ends : (text : List ℕ) → Ends text (read_class text).rest
+class_ends text =
+    let o = eqb (peek text) (code "^") in
+    let x = items_from (suc (length text)) [] (if o then drop 1 text else text) in
+    if_either (λ (R : Read). Ends text R.rest) _ _ x.good
+    (λ _. ends_more (ends_more (if_either (Ends text) _ _ o (λ _. ends_drop 1 text) (λ _. ends_whole text)) (items_ends (suc (length text)) [] _)) (with_credit_ends o x.items x.rest))
+    (λ _. ends_none text)
+
+-- a lettered atom takes a byte at least
+pub letter_ends : (b : ℕ) (text : List ℕ) → Ends text (read_letter (b ∷ text)).rest
+letter_ends b text =
+    let P : Read → Type 0 = λ R. Ends text R.rest in
+    if_either P _ _ (eqb b (code "[")) (λ _. class_ends text)
+    (λ _.
+    if_either P _ _ (eqb b (code ".")) (λ _. with_credit_ends true [] text)
+    (λ _.
+    if_either P _ _ (eqb b (code "\\"))
+    (λ _. if_either P _ _ (is_in (peek text) special) (λ _. ends_more (ends_drop 1 text) (with_credit_ends false _ (drop 1 text))) (λ _. ends_none text))
+    (λ _. if_either P _ _ (is_in b special) (λ _. ends_none text) (λ _. with_credit_ends false _ text))))
+
+digit_ends : (text : List ℕ) (b : Bound) → Ends text b.rest → Ends text (digit_more b).rest
+digit_ends text b e = if_either (λ (x : Bound). Ends text x.rest) _ b (is_digit (peek b.rest)) (λ _. ends_more e (ends_drop 1 b.rest)) (λ _. e)
+
+bound_ends : (text : List ℕ) → Ends text (read_bound text).rest
+bound_ends text = digit_ends text _ (digit_ends text _ (digit_ends text (bound 0 text) (ends_whole text)))
+
+pub interval_ends : (text : List ℕ) → Ends text (read_interval text).rest
+interval_ends text =
+    let m = read_bound text in
+    let t = drop 1 m.rest in
+    let n = read_bound t in
+    let P : Interval → Type 0 = λ I. Ends text I.rest in
+    let after : Ends text t = ends_more (bound_ends text) (ends_drop 1 m.rest) in
+    if_either P _ _ (not (is_digit (peek text))) (λ _. ends_none text)
+    (λ _.
+    if_either P _ _ (eqb (peek m.rest) (code "}")) (λ _. after)
+    (λ _.
+    if_either P _ _ (not (eqb (peek m.rest) (code ","))) (λ _. ends_none text)
+    (λ _.
+    if_either P _ _ (eqb (peek t) (code "}")) (λ _. ends_more after (ends_drop 1 t))
+    (λ _.
+    if_either P _ _ (is_digit (peek t) && eqb (peek n.rest) (code "}")) (λ _. ends_more after (ends_more (bound_ends t) (ends_drop 1 n.rest))) (λ _. ends_none text)))))
+
+-- ---- by places: the text from the place `at` on was read, and rest is left
+
+pub record Left (s : List ℕ) (at : ℕ) (rest : List ℕ) : Type 0 where
+  pub short : length rest ≤ length s
+  pub on : at ≤ length s - length rest
+  pub goes : rest ≡ drop (length s - length rest) s
+
+ends_left : (s : List ℕ) (at : ℕ) (rest : List ℕ) → at ≤ length s → Ends (drop at s) rest → Left s at rest
+ends_left s at rest h e =
+    let whole = ends_more (ends_drop at s) e in
+    record { short = ends_length whole; on = let l = length-drop at s in omega (arith, ends_length e); goes = ends_at whole }
+
+pub interval_left : (s : List ℕ) (at : ℕ) (b : Bounds) (rest : List ℕ) → at ≤ length s → read_interval (drop at s) ≡ interval b rest → Left s at rest
+interval_left s at b rest h e = ends_left s at rest h (rw e at (interval_ends (drop at s)))
+
+pub letter_left : (s : List ℕ) (at : ℕ) (p : Part) (rest : List ℕ) → read_letter (drop at s) ≡ read p rest → Left s (at + 1) rest
+letter_left s at p rest e =
+    ⊎_elim (λ h. absurd (true≢false (sym (ap (λ (R : Read). R.good) (sym (ap read_letter (drop_of_length-le s {i = at} h)) ∙ e)))))
+    (λ h.
+    ends_left s (at + 1) rest (omega arith)
+    (subst (Ends (drop (at + 1) s)) (ap (λ (R : Read). R.rest) (sym (ap read_letter (drop_first s at h)) ∙ e)) (letter_ends (get_or s at 0) (drop (at + 1) s)))) (le_or_lt (length s) at)
