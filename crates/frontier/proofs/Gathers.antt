@@ -13,6 +13,10 @@ pub record Gathering (W : (ℕ → ℕ) → Type 0) (w : ℕ → ℕ) (members l
   pub counted : (v : ℕ → ℕ) → W v → min (count + sum_if (has_bit left) v 61) (2 ^ 63) ≡ count_of members v
   pub marked : max most (most_of left w) ≡ most_of members w
 
+-- a number that was cut already
+pub cut_sum : (c a x : ℕ) → min (a + min x c) c ≡ min (a + x) c
+cut_sum c a x = omega arith
+
 pub below : {W : (ℕ → ℕ) → Type 0} {w : ℕ → ℕ} {members left count most t r : ℕ} → Gathering W w members left count most → Taken has_bit (λ (m : ℕ). m) left t r → t < 61
 below {left} {t} h s = member_below 61 left t h.small s.least.here
 
@@ -30,7 +34,7 @@ module _ (W : (ℕ → ℕ) → Type 0) (w : ℕ → ℕ) (members : ℕ) where
         record {
           small = omega (arith, h.small);
           cut = omega arith;
-          counted = λ v k. omega (arith, sum_turn 61 left t r h.small s v, given v k, h.counted v k);
+          counted = λ v k. omega (arith, sum_turn 61 left t r h.small s v, given v k, h.counted v k, cut_sum (2 ^ 63) count n, cut_sum (2 ^ 63) count (v t));
           marked = omega arith;
         }
 
