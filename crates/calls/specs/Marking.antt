@@ -1,9 +1,10 @@
 -- What marking an answer promises, for all input.
-use Rattle.std.specs.Prelude.{◌≡◌, not, List, ℕ, ◌≤◌, ◌^◌, min, eqb, ltb, ℤ, pos, nat_abs, length, if◌then◌else◌}
+use Rattle.std.specs.Prelude.{◌≡◌, not, List, ℕ, ◌≤◌, ◌^◌, min, eqb, ltb, ℤ, pos, nat_abs, length, if◌then◌else◌, Result, IfOk}
 use Rattle.alphabet.specs.Alphabet.{all_letters}
 use Rattle.graph.specs.Readings.{readings, mark}
 use Rattle.graph.specs.Taken.{letters_taken}
-use Rattle.pattern.specs.Refusals.{pattern_refusal}
+use Rattle.pattern.specs.Refusals.{pattern_refusal, refusal_of}
+use Rattle.pattern.specs.declared.Refusal.{Refusal}
 use Rattle.pattern.specs.Positions.{pattern_graph}
 use Rattle.marks.specs.declared.Marked.{Marked}
 
@@ -26,12 +27,16 @@ mark_shown s a = if eqb (mark_refusal s a) 0 then mark (pattern_graph s) a else 
 abbrev pub taken_shown : List ℕ → List ℕ → ℕ
 taken_shown s a = if eqb (mark_refusal s a) 0 then letters_taken (pattern_graph s) a else 0
 
-pub record MarkSays (s a : List ℕ) (r : Marked) : Type 0 where
-  pub refusal : r.refusal ≡ mark_refusal s a
-  pub count : r.count ≡ count_shown s a
-  pub mark : r.mark ≡ mark_shown s a
+-- what is answered where nothing is refused
+pub record RightMark (s a : List ℕ) (m : Marked) : Type 0 where
+  pub count : m.count ≡ count_shown s a
+  pub mark : m.mark ≡ mark_shown s a
   -- from -36,864 to 36,864, 9 for each of 4,096 letters
-  pub small : nat_abs r.mark ≤ 36864
-  pub taken : r.taken ≡ taken_shown s a
+  pub small : nat_abs m.mark ≤ 36864
+  pub taken : m.taken ≡ taken_shown s a
   -- no more than an answer may have
-  pub few : r.taken ≤ 4096
+  pub few : m.taken ≤ 4096
+
+pub record MarkSays (s a : List ℕ) (r : Result Marked Refusal) : Type 0 where
+  pub refusal : refusal_of r ≡ mark_refusal s a
+  pub marked : IfOk r (RightMark s a)

@@ -2,11 +2,11 @@
 // said for all input. Each lends reading a table of 61 * 61 numbers, in which it counts links.
 #![tactic(auto)]
 
-ghost use Rattle.std.specs.Prelude.{◌≡◌, pos};
 ghost use Rattle.calls.specs.Marking.{MarkSays};
-ghost use Rattle.calls.specs.Vetting.{VetSays, refused};
+ghost use Rattle.calls.specs.Vetting.{VetSays};
 
 use marks::Marked;
+use pattern::Refusal;
 use vetting::Vetted;
 
 // What vetting is lent at least: bytes of evidence, numbers of scratch.
@@ -14,68 +14,41 @@ const LEAST_EVIDENCE: usize = 4096;
 
 const LEAST_SCRATCH: usize = 8192;
 
+// The longest answer, in bytes.
+const LONGEST_ANSWER: usize = 4096;
+
 // Vets a pattern. The evidence gets the texts that show the verdict, and beyond them keeps its old bytes; scratch may hold
-// anything before, and does after.
-pub fn vet_pattern(pattern: &[u8], evidence: &mut [u8], scratch: &mut [u16]) -> Vetted
+// anything before, and does after. At a refusal both keep what they hold.
+pub fn vet_pattern(
+    pattern: &[u8],
+    evidence: &mut [u8],
+    scratch: &mut [u16],
+) -> Result<Vetted, Refusal>
     ensures { VetSays pattern.now evidence.old evidence.new scratch.old scratch.new result }
 {
     if evidence.len() < LEAST_EVIDENCE {
-        return no_verdict(1);
+        return Err(Refusal::ShortEvidence);
     }
     if scratch.len() < LEAST_SCRATCH {
-        return no_verdict(2);
+        return Err(Refusal::ShortScratch);
     }
     let mut more = [0u8; 3721];
-    let p = reader::read(pattern, &mut more);
-    if p.refusal != 0 {
-        return no_verdict(p.refusal);
-    }
-    let built = p.built;
-    vetting::vet(built, &more, &mut *evidence, &mut *scratch)
+    let built = reader::read(pattern, &mut more)?;
+    Ok(vetting::vet(built, &more, evidence, scratch))
 }
 
 // Marks an answer by a pattern.
-pub fn mark_answer(pattern: &[u8], answer: &[u8]) -> Marked
+pub fn mark_answer(pattern: &[u8], answer: &[u8]) -> Result<Marked, Refusal>
     ensures { MarkSays pattern.now answer.now result }
 {
     let mut more = [0u8; 3721];
-    let p = reader::read(pattern, &mut more);
-    if p.refusal != 0 {
-        return no_mark(p.refusal);
-    }
-    let long = answer.len() > 4096;
+    let built = reader::read(pattern, &mut more)?;
+    let long = answer.len() > LONGEST_ANSWER;
     if long {
-        return no_mark(9);
+        return Err(Refusal::LongAnswer);
     }
     if !alphabet::all_letters(answer) {
-        return no_mark(10);
+        return Err(Refusal::AnswerNotLetters);
     }
-    let built = p.built;
-    marks::mark(built, &more, answer)
-}
-
-// A refusal to vet.
-fn no_verdict(refusal: u8) -> Vetted
-    ensures { result ≡ refused refusal }
-{
-    Vetted {
-        refusal: refusal,
-        verdict: 0,
-        positions: 0,
-        first: 0,
-        second: 0,
-        third: 0,
-    }
-}
-
-// A refusal to mark.
-fn no_mark(refusal: u8) -> Marked
-    ensures { (result.refusal ≡ refusal) × (result.count ≡ 0) × (result.mark ≡ pos 0) × (result.taken ≡ 0) }
-{
-    Marked {
-        refusal: refusal,
-        count: 0,
-        mark: 0,
-        taken: 0,
-    }
+    Ok(marks::mark(built, &more, answer))
 }

@@ -1,12 +1,12 @@
 -- The fields of a line: the fewest digits are the decimal number, and how long a line can be. Assumes nothing.
-use mathlib.Core.Path.{◌≡◌, refl, sym, ap, ◌∙◌, subst}
+use mathlib.Core.Path.{◌≡◌, sym, ap, ◌∙◌, subst}
 use mathlib.Core.List.{List, [], ◌∷◌, ◌++◌}
 use Prim.Native.Nat.{ℕ, zero, suc, ◌+◌, ◌-◌, ◌/◌, ◌%◌, ◌^◌, ◌≤◌, ◌<◌}
 use native.Mathlib.Nat.{pow-suc, mod-lt, mod-eq_of_lt, le-div_iff_mul-le, div-lt_iff_lt-mul, div-lt_self, pow-le-pow_right}
 use native.Mathlib.Omega.{arith}
 use lib.Dec.{eqb, ltb}
 use lib.ListN.{length, length-append}
-use borrow.Author.Tests.{lt-ltb, le-ltb, eq-eqb, ne_eqb}
+use borrow.Author.Tests.{lt-ltb, le-ltb, ne_eqb}
 use Rattle.basics.specs.Bytes.{codes}
 use Rattle.basics.proofs.Tests.{if_yes, if_no, if_either}
 use Rattle.io.specs.Digits.{hex_digit_ascii, last_digits, IsDigitCount}
@@ -67,13 +67,6 @@ pub decimal_short : (k n : ℕ) → n < 10 ^ suc k → length (decimal n) ≤ su
 unfolding decimal
 decimal_short k n h = digits_short (suc n) k n h
 
--- ---- words
-
-pub word_other : (v : ℕ) → (v ≡ 0 → ⊥) → (v ≡ 1 → ⊥) → word v ≡ codes "runaway"
-word_other zero d e = absurd (d refl)
-word_other (suc zero) d e = absurd (e refl)
-word_other (suc (suc v)) d e = refl
-
 -- ---- lines
 
 pub line_short : (n : ℕ) (w : List ℕ) (k : ℕ) → n < 100000 → length w ≤ 7 → k < 256 → length (fields n w k) ≤ 18
@@ -82,10 +75,7 @@ line_short n w k h l m =
     let b = decimal_short 2 k (omega arith) in
     simp length-append (omega arith)
 
--- what is written is the line of what vetting gave
+-- a refusal's line has its number
 module _ (n refusal v p : ℕ) where
   pub line_refused : (refusal ≡ 0 → ⊥) → fields n (codes "refused") refusal ≡ result_line n refusal v p
   line_refused d = sym (if_no (fields n (word v) p) (fields n (codes "refused") refusal) (eqb refusal 0) (ne_eqb refusal 0 d))
-
-  pub line_verdict : refusal ≡ 0 → (w : List ℕ) → w ≡ word v → fields n w p ≡ result_line n refusal v p
-  line_verdict z w e = ap (λ (x : List ℕ). fields n x p) e ∙ sym (if_yes (fields n (word v) p) (fields n (codes "refused") refusal) (eqb refusal 0) (eq-eqb refusal 0 z))

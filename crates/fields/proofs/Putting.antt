@@ -1,13 +1,14 @@
 -- Texts put into a slice one after the other are their joined text put there, and what is put at its start are its first bytes.
 -- Assumes nothing.
-use mathlib.Core.Path.{◌≡◌, refl, sym, ap, ◌∙◌, subst}
-use mathlib.Core.List.{List, [], ◌∷◌, ◌++◌}
-use Prim.Native.Nat.{ℕ, suc, ◌+◌, ◌≤◌, ◌<◌}
+use mathlib.Core.Path.{◌≡◌, refl, sym, ap, ap₂, ◌∙◌, subst}
+use mathlib.Core.List.{List, [], ◌∷◌, ◌++◌, append_assoc}
+use Prim.Native.Nat.{ℕ, suc, ◌+◌, ◌-◌, ◌≤◌}
 use native.Mathlib.Nat.{add-zero}
-use native.Mathlib.Numerals.{add-one}
 use native.Mathlib.Omega.{arith}
-use lib.ListN.{length, take, drop, get_or, set, length-append}
-use lib.Seq.{sets, sets-eq, length-sets, take_at, take-suc, take_all, length-take-le}
+use lib.ListN.{length, take, drop, set, length-append}
+use lib.Seq.{sets, sets-eq, length-sets, take_at, length-take-le}
+use borrow.Rule.Slice.PartMut.{put_mid}
+use Rattle.std.proofs.lemmas.List.{drop-drop}
 use Rattle.io.specs.Counts.{IsPrefixLen}
 use Rattle.fields.specs.Fields.{Puts}
 
@@ -30,21 +31,20 @@ puts_kept {s} {old} {new} {a} p = ap length p.bytes ∙ length-sets old a s
 pub puts_same : {text line old new : List ℕ} {a r : ℕ} → Puts text old a new r → text ≡ line → Puts line old a new r
 puts_same {text} {line} {old} {new} {a} {r} p e = subst (λ (t : List ℕ). Puts t old a new r) e p
 
--- ---- a text put byte by byte
+-- ---- one byte, and a text copied into the slice
 
 pub puts_byte : (l : List ℕ) (a b : ℕ) → Puts (b ∷ []) l a (set l a b) (a + 1)
 puts_byte l a b = record { bytes = refl; end = refl }
 
-pub puts_more : (text old mid : List ℕ) (a i : ℕ) → i < length text → Puts (take i text) old a mid (a + i)
-    → Puts (take (i + 1) text) old a (set mid (a + i) (get_or text i 0)) (a + (i + 1))
-puts_more text old mid a i h p =
-    let e : take (i + 1) text ≡ take i text ++ (get_or text i 0 ∷ []) = ap (λ (k : ℕ). take k text) (add-one i) ∙ take-suc text i 0 h in
-    let n : a + i + 1 ≡ a + (i + 1) = omega arith in
-    subst (λ (t : List ℕ). Puts t old a (set mid (a + i) (get_or text i 0)) (a + (i + 1))) (sym e)
-    (subst (λ (r : ℕ). Puts (take i text ++ (get_or text i 0 ∷ [])) old a (set mid (a + i) (get_or text i 0)) r) n (puts_then p (puts_byte mid (a + i) (get_or text i 0))))
-
-pub puts_all : (text old new : List ℕ) (a i r : ℕ) → length text ≤ i → Puts (take i text) old a new r → Puts text old a new r
-puts_all text old new a i r h p = subst (λ (t : List ℕ). Puts t old a new r) (take_all i text h) p
+pub puts_copied : (text part old : List ℕ) (a : ℕ) → a + length text ≤ length old → part ≡ text → Puts text old a (put_mid a (a + length text - a) old part) (a + length text)
+puts_copied text part old a h e =
+    let k : a + length text - a ≡ length text = omega arith in
+    record {
+      bytes = ap₂ (λ (j : ℕ) (p : List ℕ). put_mid a j old p) k e
+          ∙ ap (λ (t : List ℕ). take a old ++ (text ++ t)) (drop-drop (length text) a old)
+          ∙ sym (simp append_assoc at (sets-eq text old a h));
+      end = refl;
+    }
 
 -- ---- a text put at the slice's start, which has room for it
 

@@ -1,8 +1,12 @@
 -- The fields of a line of the program `vet`, and what the functions that put them into a slice promise.
 -- A name in square brackets is that of the rule that a definition renders.
-use Rattle.std.specs.Prelude.{◌≡◌, List, [], ◌∷◌, ◌++◌, ℕ, zero, suc, ◌+◌, ◌/◌, ◌%◌, eqb, ltb, length, if◌then◌else◌}
+use Rattle.std.specs.Prelude.{◌≡◌, List, [], ◌∷◌, ◌++◌, ℕ, zero, suc, ◌+◌, ◌/◌, ◌%◌, eqb, ltb, length, if◌then◌else◌, Result, Ok, Err}
 use Rattle.std.proofs.lemmas.List.Edits.{sets}
 use Rattle.basics.specs.Bytes.{codes}
+use Rattle.pattern.specs.Refusals as Refusals
+use Rattle.pattern.specs.declared.Refusal.{Refusal}
+use Rattle.vetting.specs.Answers.{number_of}
+use Rattle.vetting.specs.declared.Vetted.{Vetted}
 
 -- ---- the fields of a line
 
@@ -32,6 +36,11 @@ fields n w k = decimal n ++ (codes " " ++ (w ++ (codes " " ++ (decimal k ++ newl
 -- [Output lines] the line of what vetting gave: the verdict's word and the number p of positions, or `refused` and the refusal's number
 abbrev pub result_line : ℕ → ℕ → ℕ → ℕ → List ℕ
 result_line n refusal v p = if eqb refusal 0 then fields n (word v) p else fields n (codes "refused") refusal
+
+-- that line, of a result
+abbrev pub outcome_line : ℕ → Result Vetted Refusal → List ℕ
+outcome_line n (Ok v) = result_line n 0 (number_of v.verdict) v.positions
+outcome_line n (Err e) = fields n (codes "refused") (Refusals.number_of e)
 
 -- ---- what the functions promise
 

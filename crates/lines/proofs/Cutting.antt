@@ -1,66 +1,85 @@
--- The input cut into its patterns: the bytes of a pattern are passed one by one up to a byte 10 or the input's end. Assumes nothing.
-use mathlib.Core.Path.{◌≡◌, refl, sym, ap, ◌∙◌}
-use mathlib.Core.List.{List, [], ◌∷◌, ◌++◌}
+-- The input cut into its patterns: a pattern ends at the next byte 10 or at the input's end. Assumes nothing.
+use mathlib.Core.Path.{◌≡◌, refl, sym, ap, ap₂, ◌∙◌, subst}
+use mathlib.Core.Bool.{Bool, true, false, not}
+use mathlib.Core.List.{List, [], ◌∷◌, ◌++◌, append_assoc, append-nil}
 use Prim.Native.Nat.{ℕ, suc, ◌+◌, ◌-◌, ◌≤◌, ◌<◌}
-use native.Mathlib.Numerals.{add-one}
+use native.Mathlib.Nat.{add-zero}
 use native.Mathlib.Omega.{arith}
-use lib.Dec.{eqb}
-use lib.ListN.{length, take, drop, get_or, length-drop, drop_of_length-le}
-use lib.Seq.{drop-cons, take-suc, get_or-drop, length-take-le}
-use borrow.Author.Tests.{eq-eqb, ne_eqb}
-use Rattle.basics.proofs.Tests.{if_yes, if_no}
-use Rattle.lines.specs.Lines.{patterns_from, patterns_of}
+use lib.Dec.{eqb, ltb}
+use lib.ListN.{length, take, drop, length-drop, length-append}
+use lib.Seq.{take_all}
+use borrow.Author.Tests.{ltb-false}
+use Rattle.std.specs.Prelude.{if◌then◌else◌, Option, Some, None, unwrap_or}
+use Rattle.std.specs.List.{position_or_len}
+use Rattle.std.proofs.lemmas.List.{drop-drop}
+use Rattle.basics.proofs.Tests.{by_test, if_yes, if_no, if_either}
+use Rattle.lines.specs.Lines.{patterns_from, patterns_of, EndsAt}
 
--- a byte of a pattern, and a byte 10
-byte_on : (p s : List ℕ) (b : ℕ) → (b ≡ 10 → ⊥) → patterns_from p (b ∷ s) ≡ patterns_from (p ++ (b ∷ [])) s
+abbrev pub is_newline : ℕ → Bool
+is_newline b = eqb b 10
+
+-- where the first pattern of an input ends
+abbrev pub first_end : List ℕ → ℕ
+first_end s = position_or_len is_newline s
+
+first_within : (s : List ℕ) → first_end s ≤ length s
+first_within [] = omega arith
+first_within (b ∷ s) = let h = first_within s in if_either (λ (k : ℕ). k ≤ suc (length s)) (1 + first_end s) 0 (not (eqb b 10)) (λ e. omega arith) (λ e. omega arith)
+
+-- p are the bytes of the pattern so far
+cut_first : (p s : List ℕ) → 0 < length p + length s → patterns_from p s ≡ (p ++ take (first_end s) s) ∷ patterns_of (drop (first_end s + 1) s)
 unfolding patterns_from
-byte_on p s b d = if_no (p ∷ patterns_from [] s) (patterns_from (p ++ (b ∷ [])) s) (eqb b 10) (ne_eqb b 10 d)
+cut_first [] [] h = absurd (omega arith)
+cut_first (b ∷ p) [] h = ap (λ (q : List ℕ). q ∷ []) (sym (append-nil (b ∷ p)))
+cut_first p (b ∷ s) h =
+    let more : patterns_from (p ++ (b ∷ [])) s ≡ (p ++ (b ∷ []) ++ take (first_end s) s) ∷ patterns_of (drop (first_end s + 1) s) = cut_first (p ++ (b ∷ [])) s (simp length-append (omega arith)) in
+    by_test (eqb b 10)
+    (λ e.
+    let k : first_end (b ∷ s) ≡ 0 = if_no (1 + first_end s) 0 (not (eqb b 10)) (ap not e) in
+    if_yes (p ∷ patterns_from [] s) (patterns_from (p ++ (b ∷ [])) s) (eqb b 10) e
+    ∙ ap (λ (q : List ℕ). q ∷ patterns_from [] s) (sym (append-nil p))
+    ∙ ap (λ (k : ℕ). (p ++ take k (b ∷ s)) ∷ patterns_of (drop (k + 1) (b ∷ s))) (sym k))
+    (λ e.
+    let k : first_end (b ∷ s) ≡ 1 + first_end s = if_yes (1 + first_end s) 0 (not (eqb b 10)) (ap not e) in
+    let m : suc (first_end s) ≡ first_end (b ∷ s) = omega arith in
+    let n : suc (first_end s + 1) ≡ first_end (b ∷ s) + 1 = omega arith in
+    if_no (p ∷ patterns_from [] s) (patterns_from (p ++ (b ∷ [])) s) (eqb b 10) e
+    ∙ more
+    ∙ ap (λ (q : List ℕ). q ∷ patterns_of (drop (first_end s + 1) s)) (append_assoc p (b ∷ []) (take (first_end s) s))
+    ∙ ap₂ (λ (i j : ℕ). (p ++ take i (b ∷ s)) ∷ patterns_of (drop j (b ∷ s))) m n)
 
-byte_ends : (p s : List ℕ) (b : ℕ) → b ≡ 10 → patterns_from p (b ∷ s) ≡ p ∷ patterns_from [] s
-unfolding patterns_from
-byte_ends p s b e = if_yes (p ∷ patterns_from [] s) (patterns_from (p ++ (b ∷ [])) s) (eqb b 10) (eq-eqb b 10 e)
+-- in the input s, the pattern that begins at byte a
+ends_first : (s : List ℕ) (a : ℕ) → a < length s → EndsAt s a (a + first_end (drop a s))
+ends_first s a h =
+    let k = first_end (drop a s) in
+    let l : length (drop a s) ≡ length s - a = length-drop a s in
+    let w : k ≤ length (drop a s) = first_within (drop a s) in
+    let e : k ≡ a + k - a = omega arith in
+    let f : a + (k + 1) ≡ a + k + 1 = omega arith in
+    record {
+      after = omega arith;
+      inside = omega arith;
+      cuts = cut_first [] (drop a s) (omega arith)
+          ∙ ap₂ (λ (i : ℕ) (t : List ℕ). take i (drop a s) ∷ patterns_of t) e (drop-drop (k + 1) a s ∙ ap (λ (i : ℕ). drop i s) f);
+    }
 
-input_ends : (p : List ℕ) → 0 < length p → patterns_from p [] ≡ p ∷ patterns_from [] []
-unfolding patterns_from
-input_ends [] h = absurd (omega arith)
-input_ends (b ∷ p) h = refl
+-- as the code looks for it, in the rest of the input
+module _ (s : List ℕ) (a : ℕ) where
+  abbrev pub rest : List ℕ
+  rest = take (length s - a) (drop a s)
 
--- ---- in the input s, a pattern that begins at byte a
+  rest_is : rest ≡ drop a s
+  rest_is = let l : length (drop a s) ≡ length s - a = length-drop a s in take_all (length s - a) (drop a s) (omega arith)
 
-pub cut_begins : (s : List ℕ) (a : ℕ) → patterns_of (drop a s) ≡ patterns_from (take (a - a) (drop a s)) (drop a s)
-cut_begins s a =
-    let e : 0 ≡ a - a = omega arith in
-    ap (λ (k : ℕ). patterns_from (take k (drop a s)) (drop a s)) e
+  found : (o : Option ℕ) (len : ℕ) → o ≡ (if ltb (first_end rest) (length rest) then Some (first_end rest) else None) → len ≡ unwrap_or o (length rest) → len ≡ first_end rest
+  found o len p q =
+      let within = first_within rest in
+      by_test (ltb (first_end rest) (length rest))
+      (λ e. q ∙ ap (λ (x : Option ℕ). unwrap_or x (length rest)) (p ∙ if_yes {A = Option ℕ} (Some (first_end rest)) None (ltb (first_end rest) (length rest)) e))
+      (λ e.
+      let all = ltb-false (first_end rest) (length rest) e in
+      let f : len ≡ length rest = q ∙ ap (λ (x : Option ℕ). unwrap_or x (length rest)) (p ∙ if_no {A = Option ℕ} (Some (first_end rest)) None (ltb (first_end rest) (length rest)) e) in
+      omega arith)
 
-module _ (s : List ℕ) (a i : ℕ) (since : a ≤ i) where
-  -- its bytes before byte i
-  abbrev pub so_far : List ℕ
-  so_far = take (i - a) (drop a s)
-
-  pub cut_on : i < length s → (get_or s i 0 ≡ 10 → ⊥) → patterns_from so_far (drop i s) ≡ patterns_from (take (i + 1 - a) (drop a s)) (drop (i + 1) s)
-  cut_on h d =
-      let m : length (drop a s) ≡ length s - a = length-drop a s in
-      let k : i + 1 - a ≡ suc (i - a) = omega arith in
-      let n : a + (i - a) ≡ i = omega arith in
-      let e : take (i + 1 - a) (drop a s) ≡ so_far ++ (get_or s i 0 ∷ []) =
-      ap (λ (j : ℕ). take j (drop a s)) k
-      ∙ take-suc (drop a s) (i - a) 0 (omega arith)
-      ∙ ap (λ (x : ℕ). so_far ++ (x ∷ [])) (get_or-drop a s (i - a) 0 ∙ ap (λ (j : ℕ). get_or s j 0) n) in
-      ap (λ (l : List ℕ). patterns_from so_far l) (drop-cons s i 0 h)
-      ∙ byte_on so_far (drop (suc i) s) (get_or s i 0) d
-      ∙ ap (λ (k : ℕ). patterns_from (so_far ++ (get_or s i 0 ∷ [])) (drop k s)) (sym (add-one i))
-      ∙ ap (λ (p : List ℕ). patterns_from p (drop (i + 1) s)) (sym e)
-
-  pub cut_ends : i < length s → get_or s i 0 ≡ 10 → patterns_from so_far (drop i s) ≡ so_far ∷ patterns_of (drop (i + 1) s)
-  cut_ends h e =
-      ap (λ (l : List ℕ). patterns_from so_far l) (drop-cons s i 0 h)
-      ∙ byte_ends so_far (drop (suc i) s) (get_or s i 0) e
-      ∙ ap (λ (k : ℕ). so_far ∷ patterns_of (drop k s)) (sym (add-one i))
-
-  pub cut_last : a < i → i ≡ length s → patterns_from so_far (drop i s) ≡ so_far ∷ patterns_of (drop (i + 1) s)
-  cut_last b e =
-      let m : length (drop a s) ≡ length s - a = length-drop a s in
-      let k : length so_far ≡ i - a = length-take-le (i - a) (drop a s) (omega arith) in
-      ap (λ (l : List ℕ). patterns_from so_far l) (drop_of_length-le s {i = i} (omega arith))
-      ∙ input_ends so_far (omega arith)
-      ∙ ap (λ (l : List ℕ). so_far ∷ patterns_of l) (sym (drop_of_length-le s {i = i + 1} (omega arith)))
+  pub ends_found : (o : Option ℕ) (len : ℕ) → a < length s → o ≡ (if ltb (first_end rest) (length rest) then Some (first_end rest) else None) → len ≡ unwrap_or o (length rest) → EndsAt s a (a + len)
+  ends_found o len h p q = subst (λ (k : ℕ). EndsAt s a (a + k)) (sym (found o len p q ∙ ap first_end rest_is)) (ends_first s a h)

@@ -1,5 +1,4 @@
 pub mod Cutting
 pub mod Vetting
-pub mod Stepping
 pub mod Running
 pub mod Written

@@ -2,33 +2,31 @@
 use mathlib.Core.Path.{◌≡◌, sym, ap, ap₂, ◌∙◌}
 use mathlib.Core.List.{List}
 use Prim.Native.Nat.{ℕ, ◌≤◌}
+use native.Mathlib.Omega.{arith}
 use lib.ListN.{length}
-use Rattle.basics.proofs.Tests.{by_equal}
+use Rattle.std.specs.Prelude.{Result, Ok, Err}
 use Rattle.pattern.specs.Grammar.{pattern_part}
 use Rattle.pattern.specs.Positions.{positions, pattern_graph}
-use Rattle.pattern.specs.Refusals.{pattern_refusal}
+use Rattle.pattern.specs.Refusals as Refusals
+use Rattle.pattern.specs.declared.Refusal.{Refusal}
+use Rattle.pattern.proofs.Numbers.{number_low}
 use Rattle.verdict.specs.Verdict.{verdict}
 use Rattle.vetting.specs.declared.Vetted.{Vetted}
 use Rattle.calls.specs.Vetting.{VetSays}
-use Rattle.calls.proofs.Vetting.{by_pattern, refusal_is, answered}
-use Rattle.fields.specs.Fields.{result_line}
+use Rattle.calls.proofs.Vetting.{by_pattern}
+use Rattle.fields.specs.Fields.{result_line, outcome_line}
 use Rattle.fields.proofs.Fields.{line_refused}
 use Rattle.lines.specs.Lines.{line_of}
 
 -- `vet_pattern` gave r of the pattern s, with evidence and scratch that are large enough; the line has the number n
-module _ (s e e' w w' : List ℕ) (r : Vetted) (says : VetSays s e e' w w' r) (long : 4096 ≤ length e) (wide : 8192 ≤ length w) (n : ℕ) where
-  -- the refusal is the pattern's
-  refusal : r.refusal ≡ pattern_refusal s
-  refusal = refusal_is s e e' w w' r says ∙ by_pattern s (length e) (length w) long wide
-
-  -- and where there is none, so are the verdict and the number of positions
-  judgement : r.refusal ≡ 0 → (r.verdict ≡ verdict (pattern_graph s)) × (r.positions ≡ positions (pattern_part s))
-  judgement z = let j = (answered s e e' w w' r says z).judged in (j.vets.verdict_is, j.positions)
-
-  -- so its line is the pattern's
-  pub line_is : result_line n r.refusal r.verdict r.positions ≡ line_of n s
+module _ (s e e' w w' : List ℕ) (long : 4096 ≤ length e) (wide : 8192 ≤ length w) (n : ℕ) where
+  pub line_is : (r : Result Vetted Refusal) → VetSays s e e' w w' r → outcome_line n r ≡ line_of n s
   unfolding line_of
-  line_is =
-      by_equal r.refusal 0 (λ z. let j = judgement z in ap₂ (result_line n r.refusal) j.0 j.1)
-      (λ d. sym (line_refused n r.refusal r.verdict r.positions d) ∙ line_refused n r.refusal (verdict (pattern_graph s)) (positions (pattern_part s)) d)
-      ∙ ap (λ (f : ℕ). result_line n f (verdict (pattern_graph s)) (positions (pattern_part s))) refusal
+  line_is (Ok v) says =
+      let none = says.refusal ∙ by_pattern s (length e) (length w) long wide in
+      let j = says.outcome.judged in
+      ap₂ (result_line n 0) j.reports.verdict_is j.positions ∙ ap (λ (f : ℕ). result_line n f (verdict (pattern_graph s)) (positions (pattern_part s))) none
+  line_is (Err x) says =
+      let is = says.refusal ∙ by_pattern s (length e) (length w) long wide in
+      line_refused n (Refusals.number_of x) (verdict (pattern_graph s)) (positions (pattern_part s)) (λ z. let k = number_low x in omega arith)
+      ∙ ap (λ (f : ℕ). result_line n f (verdict (pattern_graph s)) (positions (pattern_part s))) is

@@ -1,6 +1,6 @@
 -- What the program `vet` writes, a line for each pattern of its input, and what the functions that make it promise.
 -- A name in square brackets is that of the rule that a definition renders.
-use Rattle.std.specs.Prelude.{◌≡◌, List, [], ◌∷◌, ◌++◌, ℕ, suc, ◌+◌, ◌-◌, ◌≤◌, ◌<◌, eqb, ltb, length, take, drop, if◌then◌else◌}
+use Rattle.std.specs.Prelude.{◌≡◌, List, [], ◌∷◌, ◌++◌, ℕ, suc, ◌+◌, ◌-◌, ◌≤◌, ◌<◌, eqb, ltb, length, take, drop, if◌then◌else◌, Option, MatchOption}
 use Rattle.basics.specs.Bytes.{codes}
 use Rattle.pattern.specs.Grammar.{pattern_part}
 use Rattle.pattern.specs.Positions.{positions, pattern_graph}
@@ -55,38 +55,41 @@ pub record EndsAt (s : List ℕ) (a r : ℕ) : Type 0 where
 
 -- a run before its first line
 abbrev pub start : Run
-start = record { from = 0; number = 1; len = 0 }
+start = record { from = 0; number = 1 }
 
 -- a run has a line to put: it is not over, its number has at most five digits, and a line of that number fits into so many bytes
 abbrev pub HasLine : List ℕ → Run → ℕ → Type 0
 HasLine s run room = (run.from < length s) × (run.number < 100000) × (18 ≤ room)
 
--- the line of the input's first pattern from the run's byte on is put at the slice's start; the run goes on after that pattern
--- and the byte 10 that ends it, with the next number
-pub record PatternLine (s : List ℕ) (run : Run) (old new : List ℕ) (r : Run) : Type 0 where
+-- the line of the input's first pattern from the run's byte on is put at the slice's start, and len is its length; the run goes on
+-- after that pattern and the byte 10 that ends it, with the next number
+pub record PatternLine (s : List ℕ) (run : Run) (old new : List ℕ) (len : ℕ) (r : Run) : Type 0 where
   pub pattern : List ℕ
   pub cuts : patterns_of (drop run.from s) ≡ pattern ∷ patterns_of (drop r.from s)
-  pub puts : Puts (line_of run.number pattern) old 0 new r.len
-  pub short : r.len ≤ 18
+  pub puts : Puts (line_of run.number pattern) old 0 new len
+  pub short : len ≤ 18
   pub after : r.from ≡ run.from + length pattern + 1
   pub inside : r.from ≤ length s + 1
   pub counts : r.number ≡ run.number + 1
 
 -- the line for an input that is too long is put at the slice's start, and the run is over
-pub record OnlyLine (s : List ℕ) (run : Run) (old new : List ℕ) (r : Run) : Type 0 where
-  pub puts : Puts too_long old 0 new r.len
+pub record OnlyLine (s : List ℕ) (run : Run) (old new : List ℕ) (len : ℕ) (r : Run) : Type 0 where
+  pub puts : Puts too_long old 0 new len
   pub over : r.from ≡ length s
   pub counts : r.number ≡ run.number + 1
 
--- nothing is put, and the run stays where it is
-pub record NoLine (run : Run) (old new : List ℕ) (r : Run) : Type 0 where
-  pub nothing : r.len ≡ 0
-  pub stays : r.from ≡ run.from
-  pub counts : r.number ≡ run.number
+-- there is a line, and it is put
+pub record OneLine (s : List ℕ) (run : Run) (old new : List ℕ) (r : Run) (len : ℕ) : Type 0 where
+  pub has : HasLine s run (length old)
+  pub line : length s ≤ 65536 → PatternLine s run old new len r
+  pub only : 65536 < length s → OnlyLine s run old new len r
+
+-- there is none: nothing is put, and the run stays where it is
+pub record NoLine (s : List ℕ) (run : Run) (old new : List ℕ) (r : Run) : Type 0 where
+  pub none : HasLine s run (length old) → ⊥
+  pub stays : r ≡ run
   pub kept : new ≡ old
 
 -- for all input: the next line, or nothing where there is none to put
-pub record NextLine (s : List ℕ) (run : Run) (old new : List ℕ) (r : Run) : Type 0 where
-  pub line : HasLine s run (length old) → length s ≤ 65536 → PatternLine s run old new r
-  pub only : HasLine s run (length old) → 65536 < length s → OnlyLine s run old new r
-  pub none : (HasLine s run (length old) → ⊥) → NoLine run old new r
+abbrev pub NextLine : List ℕ → Run → List ℕ → List ℕ → Run → Option ℕ → Type 0
+NextLine s run old new r result = MatchOption result (NoLine s run old new r) (OneLine s run old new r)

@@ -1,11 +1,12 @@
-// What the program `vet` writes, line by line: a run through an input starts with `begin`, and each call of `next_line` puts a line.
-// No public function has a `requires`. That all lines together are the output is `run_is_output` of proofs/Written.antt.
+// What the program `vet` writes, line by line: a run through an input starts with `Run::new`, and each call of `next_line` puts a line,
+// until it gives `None`. No public function has a `requires`. That all lines together are the output is `run_is_output` of
+// proofs/Written.antt.
 #![tactic(auto)]
 
-ghost use Rattle.std.specs.Prelude.{◌≡◌, ◌+◌, ◌≤◌, ◌<◌, length};
+ghost use Rattle.std.specs.Prelude.{◌≡◌, ◌≤◌, ◌<◌, length, IfSome};
 ghost use Rattle.io.specs.Counts.{IsPrefixLen};
 ghost use Rattle.fields.specs.Fields.{Puts};
-ghost use Rattle.lines.specs.Lines.{line_of, EndsAt, start, HasLine, PatternLine, NextLine};
+ghost use Rattle.lines.specs.Lines.{line_of, EndsAt, start, NextLine};
 
 // The longest input whose patterns are vetted, in bytes.
 const LONGEST_INPUT: usize = 65536;
@@ -13,84 +14,41 @@ const LONGEST_INPUT: usize = 65536;
 // What a line takes at most, in bytes.
 const LONGEST_LINE: usize = 18;
 
-// Where a run through an input stands: the byte from which and the number with which it goes on, and the length of the line that
-// it has just put.
-#[derive(Clone, Copy)]
+// Where a run through an input stands: the byte from which and the number with which it goes on.
+#[derive(Clone, Copy, Debug, PartialEq, Eq)]
 pub struct Run {
     pub from: usize,
     pub number: u64,
-    pub len: usize,
 }
 
-// A run before its first line: at the input's first byte, with number 1, and nothing is put.
-pub fn begin() -> Run
-    ensures { result ≡ start }
-{
-    Run {
-        from: 0,
-        number: 1,
-        len: 0,
+impl Run {
+    // A run before its first line: at the input's first byte, with number 1.
+    pub fn new() -> Run
+        ensures { result ≡ start }
+    {
+        Run { from: 0, number: 1 }
     }
-}
 
-// The next line of a run, put at the start of `out`, and where the run then stands. The run is over at the input's end or past it.
-// An input of more than 65,536 bytes has one line, `input too long`, and the run is then over. Nothing is put, the length is 0 and
-// the run stays where it is if it is over, if its number has more than five digits, or if `out` has fewer than 18 bytes.
-pub fn next_line(input: &[u8], run: Run, out: &mut [u8]) -> Run
-    ensures prefix_len { IsPrefixLen result.len out.new }
-    ensures next_line { NextLine input.now run out.old out.new result }
-{
-    let stay = Run {
-        from: run.from,
-        number: run.number,
-        len: 0,
-    };
-    if run.from >= input.len() {
-        return stay;
-    }
-    if run.number >= 100000 {
-        return stay;
-    }
-    if out.len() < LONGEST_LINE {
-        return stay;
-    }
-    if input.len() > LONGEST_INPUT {
-        let len = fields::put(b"input too long", b'\n', out, 0);
-        let next = run.number + 1;
-        return Run {
-            from: input.len(),
-            number: next,
-            len: len,
-        };
-    }
-    pattern_line(input, run, out)
-}
-
-// The line of the pattern at which the run stands, put at the start of `out`, and where the run then stands: after that pattern and
-// the byte 10 that ends it, with the next number.
-fn pattern_line(input: &[u8], run: Run, out: &mut [u8]) -> Run
-    requires { HasLine input.now run (length out.old) }
-    ensures { PatternLine input.now run out.old out.new result }
-{
-    let from = run.from;
-    let number = run.number;
-    let mut evidence = [0u8; 4096];
-    let mut scratch = [0u16; 8192];
-    let end = pattern_end(input, from);
-    let len = put_line(
-        number,
-        &input[from..end],
-        &mut evidence,
-        &mut scratch,
-        out,
-        0,
-    );
-    let rest = end + 1;
-    let next = number + 1;
-    Run {
-        from: rest,
-        number: next,
-        len: len,
+    // Puts the next line at the start of `out`, and gives its length. The run then goes on after the pattern that the line is for, and
+    // the byte 10 that ends it; an input of more than 65,536 bytes has one line, `input too long`. Nothing is put and the run stays
+    // where it is if it is at the input's end or past it, if its number has more than five digits, or if `out` has fewer than 18 bytes.
+    pub fn next_line(&mut self, input: &[u8], out: &mut [u8]) -> Option<usize>
+        ensures prefix_len { IfSome result (λ len. IsPrefixLen len out.new) }
+        ensures next_line { NextLine input.now self.old out.old out.new self.new result }
+    {
+        if self.from >= input.len() || self.number >= 100000 || out.len() < LONGEST_LINE {
+            return None;
+        }
+        let number = self.number;
+        self.number += 1;
+        if input.len() > LONGEST_INPUT {
+            self.from = input.len();
+            return Some(fields::put(b"input too long", b'\n', out, 0));
+        }
+        let end = pattern_end(input, self.from);
+        let pattern = &input[self.from..end];
+        self.from = end + 1;
+        Some(pattern_line(number, pattern, out))
     }
 }
 
@@ -99,29 +57,19 @@ fn pattern_end(input: &[u8], from: usize) -> usize
     requires { from < length input.now }
     ensures { EndsAt input.now from result }
 {
-    let mut i = from;
-    while i < input.len() {
-        if input[i] == 10 {
-            return i;
-        }
-        i += 1;
-    }
-    i
+    let rest = &input[from..];
+    let len = rest.iter().position(|b| *b == b'\n').unwrap_or(rest.len());
+    from + len
 }
 
-// The line of a pattern.
-fn put_line(
-    number: u64,
-    pattern: &[u8],
-    evidence: &mut [u8],
-    scratch: &mut [u16],
-    out: &mut [u8],
-    at: usize,
-) -> usize
-    requires { (number < 100000) × (4096 ≤ length evidence.old) × (8192 ≤ length scratch.old) × (at + 18 ≤ length out.old) }
-    ensures puts { Puts (line_of number pattern.now) out.old at out.new result }
-    ensures upper_bound { result ≤ at + 18 }
+// The line of a pattern, put at the start of `out`, and its length.
+fn pattern_line(number: u64, pattern: &[u8], out: &mut [u8]) -> usize
+    requires { (number < 100000) × (18 ≤ length out.old) }
+    ensures puts { Puts (line_of number pattern.now) out.old 0 out.new result }
+    ensures short { result ≤ 18 }
 {
-    let v = marking::vet_pattern(pattern, evidence, scratch);
-    fields::put_result(number, v.refusal, v.verdict, v.positions, out, at)
+    let mut evidence = [0u8; 4096];
+    let mut scratch = [0u16; 8192];
+    let vetted = marking::vet_pattern(pattern, &mut evidence, &mut scratch);
+    fields::put_result(number, vetted, out, 0)
 }

@@ -2,20 +2,20 @@
 // `requires`: each tests its input itself, and what it gives is said for all input. `marking_c` exports them.
 #![tactic(auto)]
 
-ghost use Rattle.std.specs.Prelude.{◌≡◌, ◌<◌, ◌^◌};
+ghost use Rattle.std.specs.Prelude.{◌≡◌, IfOk};
 ghost use Rattle.marking.specs.ForC.{MarkForC, VetForC, VetAlone};
-ghost use Rattle.marking.specs.Packing.{bits32, vet_packed};
+ghost use Rattle.marking.specs.Packing.{ShortTexts, verdict_packed, vet_fields_of, vet_packed};
 
 pub use calls::{mark_answer, vet_pattern};
-use vetting::Vetted;
+use pattern::Refusal;
+use vetting::{Verdict, Vetted};
 
 // Vets a pattern. The result has the refusal in bits 0 to 7, the verdict in 8 to 15, the number of positions in 16 to 23, the
 // lengths in 24 to 35, 36 to 47 and 48 to 59.
 pub fn marking_vet_in(pattern: &[u8], evidence: &mut [u8], scratch: &mut [u16]) -> u64
     ensures { VetForC pattern.now evidence.old evidence.new scratch.old scratch.new result }
 {
-    let v = calls::vet_pattern(pattern, &mut *evidence, &mut *scratch);
-    packed(v)
+    packed(calls::vet_pattern(pattern, evidence, scratch))
 }
 
 // The same with scratch of its own.
@@ -23,7 +23,7 @@ pub fn marking_vet(pattern: &[u8], evidence: &mut [u8]) -> u64
     ensures { VetAlone pattern.now evidence.old evidence.new result }
 {
     let mut scratch = [0u16; 8192];
-    marking_vet_in(pattern, &mut *evidence, &mut scratch)
+    marking_vet_in(pattern, evidence, &mut scratch)
 }
 
 // Marks an answer. The result has the mark in bits 0 to 31, as two's complement, the refusal in 32 to 39 and the letters taken in
@@ -31,33 +31,40 @@ pub fn marking_vet(pattern: &[u8], evidence: &mut [u8]) -> u64
 pub fn marking_mark(pattern: &[u8], answer: &[u8], count: &mut u64) -> u64
     ensures { MarkForC pattern.now answer.now count.old count.new result }
 {
-    let m = calls::mark_answer(pattern, answer);
-    if m.refusal == 0 {
-        *count = m.count;
+    match calls::mark_answer(pattern, answer) {
+        Ok(marked) => {
+            *count = marked.count;
+            let bits = marked.mark.cast_unsigned();
+            u64::from(marked.taken) * 0x100_0000_0000 + u64::from(bits)
+        }
+        Err(refusal) => u64::from(refusal.number()) * 0x1_0000_0000,
     }
-    let mark = m.mark;
-    m.taken as u64 * 0x100_0000_0000 + m.refusal as u64 * 0x1_0000_0000 + twos_complement(mark)
 }
 
-// A number as the 32 bits of its two's complement.
-fn twos_complement(n: i32) -> u64
-    ensures { result ≡ bits32 n }
+// A result of vetting as one number.
+fn packed(outcome: Result<Vetted, Refusal>) -> u64
+    requires { IfOk outcome (λ v. ShortTexts v.verdict) }
+    ensures { result ≡ vet_packed (vet_fields_of outcome) }
 {
-    if n < 0 {
-        return (n as i64 + 0x1_0000_0000) as u64;
+    match outcome {
+        Ok(vetted) => u64::from(vetted.positions) * 0x1_0000 + verdict_bits(vetted.verdict),
+        Err(refusal) => u64::from(refusal.number()),
     }
-    n as u64
 }
 
-// A result as one number.
-fn packed(v: Vetted) -> u64
-    requires { (v.first < 2 ^ 12) × (v.second < 2 ^ 12) × (v.third < 2 ^ 12) }
-    ensures { result ≡ vet_packed v }
+// A verdict and the lengths of its texts, at their places in that number.
+fn verdict_bits(verdict: Verdict) -> u64
+    requires { ShortTexts verdict }
+    ensures { result ≡ verdict_packed verdict }
 {
-    v.refusal as u64
-        + v.verdict as u64 * 0x100
-        + v.positions as u64 * 0x1_0000
-        + v.first as u64 * 0x100_0000
-        + v.second as u64 * 0x10_0000_0000
-        + v.third as u64 * 0x1_0000_0000_0000
+    match verdict {
+        Verdict::Single => 0,
+        Verdict::Steady { text } => 0x100 + u64::from(text) * 0x100_0000,
+        Verdict::Runaway { x, y, z } => {
+            2 * 0x100
+                + u64::from(x) * 0x100_0000
+                + u64::from(y) * 0x10_0000_0000
+                + u64::from(z) * 0x1_0000_0000_0000
+        }
+    }
 }

@@ -1,5 +1,5 @@
 // The program: reads patterns, a line each, and writes what vetting each gives. It only reads, repeats and writes: what a line is,
-// `lines` promises of every run from `begin` on until it is over.
+// `lines` promises of every run from `Run::new` on until it is over.
 #![tactic(auto)]
 
 ghost use Rattle.std.specs.Prelude.{◌≡◌, length, take, IfSome, IfOk, OnOk};
@@ -7,6 +7,7 @@ ghost use Rattle.std.specs.Io.{ReadsAtMost};
 ghost use Rattle.std.specs.Io.KnownBytes.{Appends};
 ghost use Rattle.lines.specs.Lines.{output_of};
 
+use lines::Run;
 use std::io;
 use std::io::{Read, Write};
 
@@ -37,11 +38,10 @@ fn read_full<R: Read>(input: &mut R, room: &mut [u8]) -> io::Result<usize>
 fn write_lines<W: Write>(input: &[u8], output: &mut W) -> io::Result<()>
     ensures { OnOk result (Appends (W.contents output.old) (W.contents output.new) (output_of input.now)) }
 {
-    let mut run = lines::begin();
-    while run.from < input.len() {
-        let mut line = [0u8; 32];
-        run = lines::next_line(input, run, &mut line);
-        output.write_all(&line[..run.len])?;
+    let mut run = Run::new();
+    let mut line = [0u8; 32];
+    while let Some(len) = run.next_line(input, &mut line) {
+        output.write_all(&line[..len])?;
     }
     Ok(())
 }

@@ -1,51 +1,49 @@
 -- Each refusal by its law, from what reading and the tests say. Where none applies, the graph that was built is the pattern's.
 -- Assumes nothing.
-use mathlib.Core.Path.{◌≡◌, sym, ◌∙◌}
+use mathlib.Core.Path.{◌≡◌, sym, ◌∙◌, subst}
 use Prim.Native.Nat.{ℕ}
 use native.Mathlib.Omega.{arith}
 use lib.ListN.{length, length-replicate}
 use borrow.Author.Rules.{rules}
+use Rattle.std.specs.Prelude.{Err}
 use Rattle.basics.proofs.Lists.{zeros}
+use Rattle.pattern.proofs.Numbers.{number_low}
+use Rattle.calls.specs.Marking.{MarkSays}
 use Rattle.calls.proofs.Marking.{by_pattern, too_long, no_text, accepted, says_refusal, says_mark}
 use Rattle.calls.proofs.mark_answer.Goals as goal
 
-pub read-p-requires : goal.read-p-requires
-read-p-requires c = (length-replicate {A = ℕ} 3721 0, zeros 3721)
+pub read-requires : goal.read-requires
+read-requires c = zeros 3721
 
-pub returns-then-p-ne0 : goal.returns-then-p-ne0
-returns-then-p-ne0 c =
-    let p = c.read-p in
+pub returns-in_err-built : goal.returns-in_err-built
+returns-in_err-built c =
     let a = c.args in
-    let f = p.ensures.refusal in
-    says_refusal a.pattern.now a.answer.now p.result.refusal c.no_mark.result c.if-p-ne0.true
-    (by_pattern a.pattern.now a.answer.now (λ e. c.if-p-ne0.true (f ∙ e)) ∙ sym f) c.no_mark.ensures
+    let e = c.in_err-built.field-0.0 in
+    let f = c.in_err-built.ensures.refusal in
+    let is : c.from_residual.result ≡ Err e = search rules in
+    subst (MarkSays a.pattern.now a.answer.now) (sym is)
+    (says_refusal a.pattern.now a.answer.now e (by_pattern a.pattern.now a.answer.now (λ z. let n = number_low e in omega arith) ∙ sym f))
 
 pub returns-then-long : goal.returns-then-long
 returns-then-long c =
-    let p = c.read-p in
     let a = c.args in
-    let f = sym p.ensures.refusal ∙ c.if-p-ne0.false in
-    says_refusal a.pattern.now a.answer.now 9 c.no_mark-then-long.result (λ e. omega arith) (too_long a.pattern.now a.answer.now f c.if-long.true) c.no_mark-then-long.ensures
+    let f = sym c.in_ok-built.ensures.refusal in
+    says_refusal a.pattern.now a.answer.now _ (too_long a.pattern.now a.answer.now f c.if-long.true)
 
 pub returns-then-not-all_letters : goal.returns-then-not-all_letters
 returns-then-not-all_letters c =
-    let p = c.read-p in
     let a = c.args in
-    let f = sym p.ensures.refusal ∙ c.if-p-ne0.false in
-    let l = c.all_letters in
-    says_refusal a.pattern.now a.answer.now 10 c.no_mark-then-not-all_letters.result (λ e. omega arith)
-    (no_text a.pattern.now a.answer.now f c.if-long.false (sym l.ensures ∙ c.if-not-all_letters.true)) c.no_mark-then-not-all_letters.ensures
+    let f = sym c.in_ok-built.ensures.refusal in
+    says_refusal a.pattern.now a.answer.now _ (no_text a.pattern.now a.answer.now f c.if-long.false (sym c.all_letters.ensures ∙ c.if-not-all_letters.true))
 
 pub mark-requires : goal.mark-requires
 mark-requires c =
-    let room : length c.read-p.new.more ≡ 3721 = search rules in
-    (c.read-p.ensures.bounded, c.read-p.ensures.single, room, c.if-long.false)
+    let built = c.in_ok-built.ensures.built in
+    (built.bounded, built.single, c.if-long.false)
 
 pub returns : goal.returns
 returns c =
-    let p = c.read-p.ensures in
     let a = c.args in
-    let f = sym p.refusal ∙ c.if-p-ne0.false in
-    let l = c.all_letters in
-    says_mark a.pattern.now a.answer.now _ c.mark.result p.graph
-    (accepted a.pattern.now a.answer.now f c.if-long.false (sym l.ensures ∙ c.if-not-all_letters.false)) c.if-long.false c.mark.ensures
+    let read = c.in_ok-built.ensures in
+    says_mark a.pattern.now a.answer.now _ c.mark.result read.built.graph
+    (accepted a.pattern.now a.answer.now (sym read.refusal) c.if-long.false (sym c.all_letters.ensures ∙ c.if-not-all_letters.false)) c.if-long.false c.mark.ensures

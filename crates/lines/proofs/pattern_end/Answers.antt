@@ -1,31 +1,14 @@
--- A search for byte 10. Invariant: the bytes passed belong to the pattern. Assumes nothing.
-use mathlib.Core.Path.{◌∙◌}
-use native.Mathlib.Omega.{arith}
-use Rattle.lines.proofs.Cutting.{cut_begins, cut_on, cut_ends, cut_last}
+-- The next byte 10 is looked for in the rest of the input. Assumes nothing.
+use borrow.Author.Rules.{rules}
+use Rattle.std.proofs.Common.{tests}
+use Rattle.std.proofs.lemmas.Iterator.{YieldsList-from_slice}
+use Rattle.std.proofs.lemmas.Iterator.Search.{position_from_yields_List}
+use Rattle.lines.proofs.Cutting.{is_newline, rest, ends_found}
 use Rattle.lines.proofs.pattern_end.Goals as goal
-
-pub loop-i-init : goal.loop-i-init
-loop-i-init c = (omega arith, omega arith, cut_begins c.args.input.now c.args.from)
-
-pub returns-then-input-i-eq10 : goal.returns-then-input-i-eq10
-returns-then-input-i-eq10 c =
-    let s = c.args.input.now in
-    record {
-      after = c.loop-i.invariant.0;
-      inside = c.loop-i.invariant.1;
-      cuts = c.loop-i.invariant.2 ∙ cut_ends s c.args.from c.loop-i.i c.loop-i.invariant.0 c.loop-i-test.true c.if-input-i-eq10.true;
-    }
-
-pub loop-i-preserved : goal.loop-i-preserved
-loop-i-preserved c =
-    let s = c.args.input.now in
-    (omega arith, omega arith, c.loop-i.invariant.2 ∙ cut_on s c.args.from c.loop-i.i c.loop-i.invariant.0 c.loop-i-test.true c.if-input-i-eq10.false)
 
 pub returns : goal.returns
 returns c =
-    let s = c.args.input.now in
-    record {
-      after = c.loop-i.invariant.0;
-      inside = c.loop-i.invariant.1;
-      cuts = c.loop-i.invariant.2 ∙ cut_last s c.args.from c.loop-i.i c.loop-i.invariant.0 (omega arith) (omega arith);
-    }
+    let a = c.args in
+    ends_found a.input.now a.from c.position.result _ c.requires
+    (position_from_yields_List is_newline _ _ c.position.result c.position.ensures.ran (YieldsList-from_slice (rest a.input.now a.from) c.iter.ensures.rest) (λ x b q k. search (rules, tests)))
+    c.unwrap_or-len.ensures
