@@ -23,11 +23,8 @@ pub fn class(text: &[u8]) -> Option<(Named, &[u8])>
     match text {
         [b'^', rest @ ..] => {
             let (named, rest) = items(rest)?;
-            let others = Named {
-                set: named.set.complement(),
-                ..named
-            };
-            Some((others, rest))
+            let set = named.set.complement();
+            Some((Named { set, ..named }, rest))
         }
         _ => items(text),
     }

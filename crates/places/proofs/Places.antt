@@ -1,45 +1,30 @@
 -- The text from a place on, and its first bytes, by the text itself: what turns a rule about `drop at s` into one about
 -- `s` and `at`. Assumes nothing.
-use mathlib.Core.Path.{◌≡◌, refl, sym, ap, ◌∙◌}
+use mathlib.Core.Path.{◌≡◌, sym, ap, ◌∙◌}
 use mathlib.Core.Logic.{⊎_elim}
 use mathlib.Core.List.{List, [], ◌∷◌}
-use Prim.Native.Nat.{ℕ, zero, suc, ◌+◌, ◌-◌, ◌≤◌, ◌<◌}
+use Prim.Native.Nat.{ℕ, suc, ◌+◌, ◌-◌, ◌≤◌, ◌<◌}
 use native.Mathlib.Nat.{add-zero}
 use native.Mathlib.Numerals.{add-one}
 use native.Mathlib.Omega.{arith}
 use lib.Dec.{eqb, leb}
 use lib.ListN.{length, get_or, take, drop, length-drop, drop_of_length-le}
-use lib.Seq.{get_or-drop, drop-cons, drop-nil, take_all}
+use lib.Seq.{get_or-drop, drop-cons, take_all}
 use borrow.Author.Tests.{le-leb, lt-leb, eq-eqb, ne_eqb}
 use Rattle.basics.proofs.Tests.{le_or_lt}
 use Rattle.pattern.specs.Grammar.{peek}
 
--- the first byte from a place on is the one at the place, and the others are the first from places after it
+-- the first byte from a place on is the one at the place
 pub peek_drop : (s : List ℕ) (at : ℕ) → peek (drop at s) ≡ get_or s at 0
 peek_drop s at = get_or-drop at s 0 0 ∙ ap (λ (k : ℕ). get_or s k 0) (add-zero at)
-
-pub later_byte : (s : List ℕ) (at k : ℕ) → get_or (drop at s) k 0 ≡ peek (drop (at + k) s)
-later_byte s at k = get_or-drop at s k 0 ∙ sym (peek_drop s (at + k))
 
 -- past the end there is nothing
 pub peek_past : (s : List ℕ) (at : ℕ) → length s ≤ at → peek (drop at s) ≡ 0
 peek_past s at h = ap peek (drop_of_length-le s {i = at} h)
 
--- so a byte that is not 0 is within the text
-pub byte_within : (s : List ℕ) (at k : ℕ) → peek (drop at s) ≡ suc k → at < length s
-byte_within [] zero k h = absurd (omega arith)
-byte_within [] (suc at) k h = absurd (omega arith)
-byte_within (x ∷ s) zero k h = omega arith
-byte_within (x ∷ s) (suc at) k h = let r = byte_within s at k h in omega arith
-
 -- within it there is a first byte
 pub drop_first : (s : List ℕ) (at : ℕ) → at < length s → drop at s ≡ get_or s at 0 ∷ drop (at + 1) s
 drop_first s at h = drop-cons s at 0 h ∙ ap (λ (n : ℕ). get_or s at 0 ∷ drop n s) (sym (add-one at))
-
--- one byte and k more
-pub drop_suc : (k : ℕ) (s : List ℕ) → drop (suc k) s ≡ drop k (drop 1 s)
-drop_suc k [] = sym (drop-nil k)
-drop_suc k (x ∷ s) = refl
 
 pub next_within : (s : List ℕ) (n : ℕ) → 0 < peek (drop n s) → n < length s
 next_within s n p = ⊎_elim (λ h. absurd (omega (arith, peek_past s n h))) (λ h. h) (le_or_lt (length s) n)

@@ -11,7 +11,7 @@ pub returns-in_err-named-in-94 : goal.returns-in_err-named-in-94
 returns-in_err-named-in-94 c = rw c.from_residual.ensures (others_bad c.args.text.now _ (text_after 1 _) (search rules) c.in_err-named-in-94.ensures)
 
 pub returns-in_ok-named-in-94 : goal.returns-in_ok-named-in-94
-returns-in_ok-named-in-94 c = class_others c.args.text.now _ (text_after 1 _) (search rules) _ _ _ c.in_ok-named-in-94.ensures c.complement.ensures
+returns-in_ok-named-in-94 c = class_others c.args.text.now _ (text_after 1 _) (search rules) _ _ _ c.in_ok-named-in-94.ensures c.complement-set.ensures
 
 pub returns-in_default : goal.returns-in_default
 returns-in_default c =
