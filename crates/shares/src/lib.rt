@@ -47,7 +47,12 @@ fn share(s: LetterSet, t: LetterSet) -> bool
 
 // The positions to which two links or more lead from u, for every state u up to `positions`, in rows: those of its row of `follow`
 // with a number above 0 in the table of links beyond the first. Where `doubled` says that there are none, nothing is looked up.
-pub fn double_rows(follow: &[u64; 61], more: &[u8; 3721], doubled: bool, positions: usize) -> [u64; 61]
+pub fn double_rows(
+    follow: &[u64; 61],
+    more: &[u8; 3721],
+    doubled: bool,
+    positions: usize,
+) -> [u64; 61]
     requires { Within follow.now × (doubled ≡ false → NoneDoubled follow.now more.now) × (positions ≤ 60) }
     ensures { (u i : ℕ) → u ≤ positions → has_bit (get_or result u 0) i ≡ is_doubled follow.now more.now u i }
 {
