@@ -25,7 +25,7 @@ module _ (s : List ℕ) (e w : ℕ) where
   of_scratch = if ltb w 8192 then 2 else pattern_refusal s
 
   pub little_evidence : e < 4096 → vet_refusal s e w ≡ 1
-  little_evidence l = if_yes 1 of_scratch (ltb e 4096) (lt-ltb e 4096 l)
+  little_evidence l = if_yes 1 _ (ltb e 4096) (lt-ltb e 4096 l)
 
   by_scratch : 4096 ≤ e → vet_refusal s e w ≡ of_scratch
   by_scratch l = if_no 1 of_scratch (ltb e 4096) (le-ltb e 4096 l)
