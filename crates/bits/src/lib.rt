@@ -34,19 +34,18 @@ pub fn with(mask: u64, i: usize) -> u64
     mask | (1 << i)
 }
 
-// The members, and i where `yes` says so.
-pub fn with_if(mask: u64, i: usize, yes: bool) -> u64
-    requires { i < 64 }
-    ensures { (j : ℕ) → has_bit result j ≡ (has_bit mask j || (yes && eqb i j)) }
-{
-    if yes { with(mask, i) } else { mask }
-}
-
 // The members of a and those of b.
 pub fn union(a: u64, b: u64) -> u64
     ensures { (j : ℕ) → has_bit result j ≡ (has_bit a j || has_bit b j) }
 {
     a | b
+}
+
+// The members of x and, on a condition, those of y.
+pub fn union_if(yes: bool, x: u64, y: u64) -> u64
+    ensures { (j : ℕ) → has_bit result j ≡ (has_bit x j || (yes && has_bit y j)) }
+{
+    if yes { union(x, y) } else { x }
 }
 
 // The members of a that are in b.

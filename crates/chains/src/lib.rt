@@ -28,9 +28,9 @@ pub fn chain(
     for i in 1..copies {
         one = next(one, w);
         all = all.join(rows, one);
-        ends = links::union_if(lower <= i, all.lasts, ends);
+        ends = bits::union_if(lower <= i, all.lasts, ends);
     }
-    let back = links::union_if(endless, 0, one.lasts);
+    let back = bits::union_if(endless, 0, one.lasts);
     let second = links::link_again(rows, more, back, one.firsts);
     Parsed {
         empty: (lower == 0) | all.empty,

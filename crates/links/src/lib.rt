@@ -2,8 +2,7 @@
 // 60 are counted only. A lent table has the numbers of links: entry 61 * a + b is how many lead from a to b beyond the first.
 #![tactic(auto)]
 
-ghost use Rattle.std.specs.Prelude.{◌≡◌, ◌&&◌, ◌||◌, ℕ, ◌<◌, ◌^◌, eqb};
-ghost use Rattle.bits.specs.Bits.{has_bit};
+ghost use Rattle.std.specs.Prelude.{◌<◌, ◌^◌, eqb};
 ghost use Rattle.links.specs.Rows.{Marks, Linked, Further, LinksMore};
 
 // The rows of a table, one for each state.
@@ -50,11 +49,4 @@ pub fn position(n: usize) -> u64
     ensures { Marks result (λ b. eqb b n) }
 {
     if n < ROWS { bits::only(n) } else { 0 }
-}
-
-// The members of x and, on a condition, those of y.
-pub fn union_if(yes: bool, x: u64, y: u64) -> u64
-    ensures { (b : ℕ) → has_bit result b ≡ (has_bit x b || (yes && has_bit y b)) }
-{
-    if yes { bits::union(x, y) } else { x }
 }

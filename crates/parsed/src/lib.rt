@@ -119,8 +119,8 @@ impl Parsed {
         let doubled = self.doubled | next.doubled;
         Parsed {
             empty: self.empty & next.empty,
-            firsts: links::union_if(self.empty, self.firsts, next.firsts),
-            lasts: links::union_if(next.empty, next.lasts, self.lasts),
+            firsts: bits::union_if(self.empty, self.firsts, next.firsts),
+            lasts: bits::union_if(next.empty, next.lasts, self.lasts),
             reversed: self.reversed | next.reversed,
             hollow: self.hollow | next.hollow,
             misbounded: self.misbounded | next.misbounded,
@@ -150,7 +150,7 @@ impl Parsed {
         requires { self.at < 18446744073709551615 }
         ensures { Repeats (rule_of repeat) rows.old more.old rows.new more.new self result }
     {
-        let back = links::union_if(repeat.loops(), 0, self.lasts);
+        let back = bits::union_if(repeat.loops(), 0, self.lasts);
         let second = links::link_again(rows, more, back, self.firsts);
         Parsed {
             at: self.at + 1,

@@ -63,7 +63,7 @@ fn accepted(p: ParsedRows, tables: &Tables) -> Built
         positions: part.n,
         follow,
         doubled: part.doubled,
-        lasts: bits::with_if(part.lasts, 0, part.empty),
+        lasts: bits::union_if(part.empty, part.lasts, bits::only(0)),
         letters: set_table::sets(&tables.sets, part.n),
         credits: tables.credits,
     }

@@ -32,7 +32,7 @@ fn share_row(sets: &[LetterSet; 61], a: usize) -> u64
 {
     let mut row = 0;
     for b in 0..=a {
-        row = bits::with_if(row, b, share(sets[a], sets[b]));
+        row = bits::union_if(share(sets[a], sets[b]), row, bits::only(b));
     }
     row
 }
@@ -73,7 +73,7 @@ fn double_row(set: u64, more: &[u8; 3721], u: usize) -> u64
 {
     let mut doubled = 0;
     for i in bits::members(set) {
-        doubled = bits::with_if(doubled, i, 0 < more[61 * u + i]);
+        doubled = bits::union_if(0 < more[61 * u + i], doubled, bits::only(i));
     }
     doubled
 }

@@ -1,9 +1,11 @@
 -- The rows with the firsts in row 0, the lasts with 0 among them where the pattern can be empty, and the sets of the table.
 -- Assumes nothing.
-use mathlib.Core.Path.{◌≡◌, refl}
+use mathlib.Core.Path.{◌≡◌, refl, ap, ◌∙◌}
+use mathlib.Core.Bool.{Bool, ◌&&◌, ◌||◌}
 use native.Mathlib.Omega.{arith}
 use lib.ListN.{length}
 use borrow.Author.Rules.{rules}
+use Rattle.bits.specs.Bits.{has_bit}
 use Rattle.reader.proofs.Building.{built_shown}
 use Rattle.reader.proofs.accepted.Goals as goal
 
@@ -12,6 +14,7 @@ returns c =
     let start = c.args in
     let rows : length start.p.rows ≡ 61 = search rules in
     record {
-      graph = built_shown start.p start.tables.now.sets start.tables.now.credits c.sets.result c.with_if.result (omega arith) c.sets.ensures c.with_if.ensures;
+      graph = built_shown start.p start.tables.now.sets start.tables.now.credits c.sets.result c.union_if.result (omega arith) c.sets.ensures
+          (λ j. c.union_if.ensures j ∙ ap (λ (x : Bool). has_bit start.p.part.lasts j || (start.p.part.empty && x)) (c.only.ensures j));
       doubled = refl;
     }
