@@ -19,7 +19,7 @@ use Rattle.links.specs.Rows.{kept, Marks, Adds, number, after, Counts, Clear, Li
 use Rattle.links.proofs.Linking.{marks_if, marks_none}
 use Rattle.links.proofs.Counting.{adds_more, adds_one, counts_both, counts_new}
 use Rattle.parsed.specs.declared.Parsed.{Parsed}
-use Rattle.parsed.specs.declared.Tables.{Tables}
+use Rattle.set_table.specs.declared.Tables.{Tables}
 use Rattle.parsed.specs.Parsed.{Shape, shape_of, Memory, memory, Keeps, Follows, Joins}
 use Rattle.parsed.proofs.Shapes.{either_shape, Owns, owns_part, owns_either}
 use Rattle.parsed.proofs.Joining.{none, clear_on, keeps_linked}

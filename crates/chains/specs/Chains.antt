@@ -5,7 +5,7 @@ use Rattle.pattern.specs.Positions.{positions}
 use Rattle.links.specs.Rows.{Clear}
 use Rattle.copies.specs.Copies.{Same, Moved, Repeats}
 use Rattle.parsed.specs.declared.Parsed.{Parsed}
-use Rattle.parsed.specs.declared.Tables.{Tables}
+use Rattle.set_table.specs.declared.Tables.{Tables}
 use Rattle.parsed.specs.Parsed.{shape_of, Memory, memory, Keeps}
 
 -- how many copies an interval is written out in

@@ -15,7 +15,7 @@ use Rattle.pattern.specs.Parts.{Atom, holds, Repeat, skips, loops, is_misbounded
 use Rattle.pattern.specs.Positions.{is_first, is_last, links}
 use Rattle.pattern.specs.Refusals.{some_reversed, any_reversed, any_empty, any_misbounded}
 use Rattle.parsed.specs.declared.Parsed.{Parsed}
-use Rattle.parsed.specs.declared.Tables.{Tables}
+use Rattle.set_table.specs.declared.Tables.{Tables}
 use Rattle.links.specs.Rows.{kept, Marks, Adds, number, after, Counts, Clear, LinksMore}
 use Rattle.parsed.specs.Tables.{Stored}
 use Rattle.parsed.specs.Parsed.{Shape, shape_of, Memory, memory, Keeps, Has, nothing_read, Either, Joins}

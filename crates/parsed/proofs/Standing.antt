@@ -20,10 +20,11 @@ use Rattle.atoms.specs.Atoms.{IsRead}
 use Rattle.places.proofs.Places.{next_within}
 use Rattle.places.proofs.Rests.{letter_left}
 use Rattle.parsed.specs.declared.Parsed.{Parsed}
-use Rattle.parsed.specs.declared.Tables.{Tables}
+use Rattle.set_table.specs.declared.Tables.{Tables}
 use Rattle.links.specs.Rows.{Marks, LinksMore}
 use Rattle.parsed.specs.Parsed.{Shape, shape_of, Memory, memory, Has, StandsFor, Stands, Letters, closed_read}
-use Rattle.parsed.proofs.Storing.{Filled, one_stored}
+use Rattle.set_table.specs.Tables.{Writes}
+use Rattle.parsed.proofs.Storing.{one_stored}
 use Rattle.parsed.proofs.Joining.{has_read_letter, has_at, has_again}
 
 -- ---- a result
@@ -37,10 +38,10 @@ stands_not s at n m m' good x rest r e h = record { same = e ∙ sym h; gives = 
 -- ---- a lettered atom
 
 pub letter_stands : (s : List ℕ) (at n own count : ℕ) (tables tables' : Tables) (rest : List ℕ) (l : Lettered) → IsRead (read_letter (drop at s)) l rest → count ≡ min (n + 1) 61
-    → (n + 1 ≤ 60 → Marks own (λ b. eqb b (n + 1))) → length tables.credits ≡ 61 → (n + 1 ≤ 60 → Filled (n + 1) l.set l.credit tables tables')
+    → (n + 1 ≤ 60 → Marks own (λ b. eqb b (n + 1))) → (n + 1 ≤ 60 → Writes (n + 1) l.set l.credit tables tables')
     → Letters s at n tables tables' (read_letter (drop at s))
     record { good = true; at = length s - length rest; n = count; empty = false; firsts = own; lasts = own; reversed = l.reversed; hollow = l.hollow; misbounded = false; doubled = false }
-letter_stands s at n own count tables tables' rest l w cuts m long put rows more =
+letter_stands s at n own count tables tables' rest l w cuts m put rows more =
     let is = w.atom in
     let place = letter_left s at (letter w.what) rest w.same in
     let short = place.short in
@@ -54,7 +55,7 @@ letter_stands s at n own count tables tables' rest l w cuts m long put rows more
         goes = place.goes;
         has =
             has_read_letter n rows more tables tables' w.what _ count own l.reversed l.hollow cuts m is.turned is.hollow
-            (λ h al e st. one_stored al w.what (n + 1) l.set l.credit tables tables' long (omega arith) h (put h) is.has is.credit is.small st);
+            (λ h al e st. one_stored al w.what l.set l.credit tables tables' (omega arith) (subst (λ (k : ℕ). Writes (k + 1) l.set l.credit tables tables') (sym e) (put h)) record { has = is.has; credit = is.credit; small = is.small } st);
       };
     }
 

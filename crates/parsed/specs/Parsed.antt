@@ -7,11 +7,11 @@ use Rattle.pattern.specs.Parts.{Atom, Repeat, optional, star, plus, Part, again}
 use Rattle.pattern.specs.Grammar.{Read, read, broken, peek}
 use Rattle.pattern.specs.Positions.{atoms, can_be_empty, is_first, is_last, links}
 use Rattle.pattern.specs.Refusals.{any_reversed, any_empty, any_misbounded}
+use Rattle.set_table.specs.declared.Tables.{Tables}
 use Rattle.links.specs.Rows.{Marks, Adds, Linked, Counts, Clear}
 use Rattle.parsed.specs.declared.Parsed.{Parsed}
 use Rattle.parsed.specs.declared.Repeat.{Repeat as Repeating}
 use Rattle.parsed.specs.declared.Repeat.TheVariants.{Optional, Star, Plus}
-use Rattle.parsed.specs.declared.Tables.{Tables}
 use Rattle.parsed.specs.Tables.{Stored}
 
 -- ---- a part, parsed

@@ -2,37 +2,18 @@
 // piece more is read, and where an atom is stored in the tables.
 #![tactic(auto)]
 
-ghost use Rattle.std.specs.Prelude.{◌≡◌, [], ℕ, ◌≤◌, ◌<◌, drop};
+ghost use Rattle.std.specs.Prelude.{◌≡◌, ℕ, ◌≤◌, ◌<◌, drop};
 ghost use Rattle.pattern.specs.Parts.{skips, loops};
 ghost use Rattle.pattern.specs.Grammar.{read_letter};
-ghost use Rattle.parsed.specs.Tables.{Stored};
 ghost use Rattle.parsed.specs.Parsed.{Memory, rule_of, Letters, Changes, Repeats, nothing_read, Either, Joins, closed_read};
+
+use set_table::Tables;
 
 // What ends a pattern in `( )`.
 const CLOSE: u8 = b')';
 
 // The rows of the tables, one for each position, and row 0.
 const ROWS: usize = 61;
-
-// The tables that are filled from the left as atoms are read: entry i is position i's.
-#[derive(Drop)]
-pub struct Tables {
-    pub sets: [u64; 183],
-    pub credits: [u8; 61],
-}
-
-impl Tables {
-    // No letters, and the credit 0 for each, which is raised by 9.
-    pub fn new() -> Tables
-        ensures { Stored [] result.sets result.credits }
-    {
-        let sets = set_table::empty();
-        Tables {
-            sets,
-            credits: [9; 61],
-        }
-    }
-}
 
 // What repeats an atom: `?`, `*` or `+`.
 #[derive(Clone, Copy)]
@@ -176,8 +157,7 @@ pub fn letter(s: &[u8], at: usize, n: usize, tables: &mut Tables) -> Parsed
     let end = s.len() - rest.len();
     let k = (n + 1).min(61);
     if k < ROWS {
-        set_table::write(&mut tables.sets, k, a.set);
-        tables.credits[k] = a.credit;
+        tables.write(k, a.set, a.credit);
     }
     let own = links::position(k);
     Parsed {

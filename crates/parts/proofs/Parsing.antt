@@ -22,7 +22,7 @@ use Rattle.bits.proofs.Laws.{has_none}
 use Rattle.links.specs.Rows.{NoneCounted}
 use Rattle.links.proofs.Counting.{none_linked, counts_alone}
 use Rattle.parsed.specs.declared.Parsed.{Parsed}
-use Rattle.parsed.specs.declared.Tables.{Tables}
+use Rattle.set_table.specs.declared.Tables.{Tables}
 use Rattle.parsed.specs.Tables.{Stored}
 use Rattle.parsed.specs.Parsed.{Shape, Memory, memory, Has, Stands, closed_read, Changes}
 use Rattle.parsed.proofs.Standing.{stands_as}

@@ -1,6 +1,7 @@
 -- What parsing a pattern, a branch or a piece gives, and the whole pattern.
 use Rattle.std.specs.Prelude.{◌≡◌, Bool, true, false, List, ℕ, zero, suc, ◌+◌, ◌-◌, ◌*◌, ◌<◌, ◌≤◌, min, eqb, ltb, length, drop, if◌then◌else◌}
 use Prim.Native.Char.{code}
+use Rattle.letters.specs.declared.LetterSet.{LetterSet}
 use Rattle.pattern.specs.Parts.{Part}
 use Rattle.pattern.specs.Grammar.{Read, read, broken, peek, read_letter, pattern_from, read_pattern, pattern_part}
 use Rattle.pattern.specs.Refusals.{any_reversed, any_empty}
@@ -36,7 +37,7 @@ Opens s at = peek (drop at s) ≡ code "("
 -- ---- the whole pattern
 
 -- the result, the rows and the tables have the shape that a text begins with, of up to 60 positions
-pub record Kept (x : Shape) (rows more sets credits : List ℕ) (r : Parsed) : Type 0 where
+pub record Kept (x : Shape) (rows more : List ℕ) (sets : List LetterSet) (credits : List ℕ) (r : Parsed) : Type 0 where
   pub count : r.n ≡ length x.atoms
   pub empty : r.empty ≡ x.empty
   pub firsts : Marks r.firsts (x.first 0)
@@ -47,7 +48,7 @@ pub record Kept (x : Shape) (rows more sets credits : List ℕ) (r : Parsed) : T
   pub stored : Stored x.atoms sets credits
 
 -- the result has that shape. More than 60 positions are not kept, and count as 61
-pub record Whole (x : Shape) (rows more sets credits : List ℕ) (r : Parsed) : Type 0 where
+pub record Whole (x : Shape) (rows more : List ℕ) (sets : List LetterSet) (credits : List ℕ) (r : Parsed) : Type 0 where
   pub count : r.n ≡ min (length x.atoms) 61
   pub reversed : r.reversed ≡ any_reversed x.atoms
   pub hollow : r.hollow ≡ any_empty x.atoms
@@ -55,7 +56,7 @@ pub record Whole (x : Shape) (rows more sets credits : List ℕ) (r : Parsed) : 
   pub keeps : length x.atoms ≤ 60 → Kept x rows more sets credits r
 
 -- the result stands for what the rules read of the text s, with no position to its left and nothing in the memory before
-pub record ParsesAll (s rows more sets credits : List ℕ) (r : Parsed) : Type 0 where
+pub record ParsesAll (s rows more : List ℕ) (sets : List LetterSet) (credits : List ℕ) (r : Parsed) : Type 0 where
   pub same : r.good ≡ (read_pattern s).good
   pub within : r.good ≡ true → r.at ≤ length s
   pub rest : r.good ≡ true → (read_pattern s).rest ≡ drop r.at s

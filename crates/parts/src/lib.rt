@@ -11,7 +11,8 @@ ghost use Rattle.parsed.specs.Tables.{Stored};
 ghost use Rattle.parsed.specs.Parsed.{memory};
 ghost use Rattle.parts.specs.Parsing.{Parses, ParsesAll, atom_from, bar_next, Opens};
 
-use parsed::{Parsed, Tables};
+use parsed::Parsed;
+use set_table::Tables;
 
 // A part, and the rows with its links: row a has what may follow position a, and row 0 is not used.
 #[derive(Clone, Copy)]

@@ -7,17 +7,15 @@ use mathlib.Core.List.{List}
 use mathlib.Core.Logic.{⊎_elim}
 use Prim.Native.Nat.{ℕ, zero, suc, ◌+◌, ◌*◌, ◌≤◌, ◌<◌}
 use native.Mathlib.Omega.{arith}
-use lib.Dec.{eqb, ltb, leb}
+use lib.Dec.{eqb, ltb}
 use lib.IntN.{ℤ, nat_abs}
 use lib.ListN.{length, get_or, set}
 use lib.Seq.{take_all, get_or-set_same, get_or-set_other}
-use borrow.Author.Tests.{lt-ltb, le-ltb, le-leb, ne_eqb, ltb-true}
+use borrow.Author.Tests.{lt-ltb, le-ltb, ne_eqb, ltb-true}
 use Rattle.std.specs.Prelude.{if◌then◌else◌}
 use Rattle.basics.proofs.Tests.{and_of, by_test, le_or_lt}
 use Rattle.bits.specs.Bits.{has_bit}
-use Rattle.letters.specs.LetterSet.{has_letter, set_at}
 use Rattle.letters.specs.declared.LetterSet.{LetterSet}
-use Rattle.set_table.specs.Table.{set_in}
 use Rattle.graph.specs.Graph.{some, Bounded, SingleLinks}
 use Rattle.graph.specs.Built.{graph_of_built}
 use Rattle.graph.proofs.Best.{lowered_low}
@@ -27,7 +25,7 @@ use Rattle.pattern.specs.Parts.{Atom, holds, Part}
 use Rattle.pattern.specs.Grammar.{no_atom}
 use Rattle.pattern.specs.Positions.{atoms, positions, atom_at, is_first, is_last, links, links_of, last_of, graph_of}
 use Rattle.pattern.proofs.Own.{first_own, last_own, follow_own}
-use Rattle.pattern.proofs.Bounds.{graph_bounded, holds_position}
+use Rattle.pattern.proofs.Bounds.{graph_bounded}
 use Rattle.links.specs.Rows.{kept, entry, number, after, NoneCounted}
 use Rattle.links.proofs.Counting.{after_few}
 use Rattle.parsed.specs.Tables.{atom_of, Stored}
@@ -41,7 +39,7 @@ atom_kept_at x few zero = refl
 atom_kept_at x few (suc i) = ap (λ (l : List Atom). get_or l i no_atom) (take_all 60 (atoms x) few)
 
 -- so the tables bound the credits
-pub stored_bounded : (x : Part) (sets credits : List ℕ) → Stored (atoms x) sets credits → positions x ≤ 60 → Bounded (graph_of x)
+pub stored_bounded : (x : Part) (sets : List LetterSet) (credits : List ℕ) → Stored (atoms x) sets credits → positions x ≤ 60 → Bounded (graph_of x)
 stored_bounded x sets credits d few = graph_bounded x few (λ i. subst (λ (c : ℤ). nat_abs c ≤ 9) (d.credit i ∙ ap (λ (a : Atom). a.credit) (atom_kept_at x few i)) (lowered_low 1 (get_or credits i 9) (d.small i)))
 
 -- a guard that a test implies
@@ -56,9 +54,9 @@ single_shown b more e u i =
     ∙ ap (λ (n : ℕ). has_bit (get_or b.follow u 0) i && some n) (e (61 * u + i))
     ∙ and-false (has_bit (get_or b.follow u 0) i)
 
-module _ (p : ParsedRows) (sets credits : List ℕ) (held : List LetterSet) (lasts : ℕ) (long : 0 < length p.rows) (same : (i c : ℕ) → has_letter (set_at held i) c ≡ (leb i p.part.n && has_letter (set_in sets i) c)) (ends : (j : ℕ) → has_bit lasts j ≡ (has_bit p.part.lasts j || (p.part.empty && eqb 0 j))) where
+module _ (p : ParsedRows) (sets : List LetterSet) (credits : List ℕ) (lasts : ℕ) (long : 0 < length p.rows) (ends : (j : ℕ) → has_bit lasts j ≡ (has_bit p.part.lasts j || (p.part.empty && eqb 0 j))) where
   abbrev made : Built
-  made = record { positions = p.part.n; follow = set p.rows 0 p.part.firsts; doubled = p.part.doubled; lasts = lasts; letters = held; credits = credits }
+  made = record { positions = p.part.n; follow = set p.rows 0 p.part.firsts; doubled = p.part.doubled; lasts = lasts; letters = sets; credits = credits }
 
   module _ (x : Part) (more : List ℕ) (w : Kept (shape_of x) p.rows more sets credits p.part) (few : positions x ≤ 60) (low : (u i : ℕ) → links_of x u i ≤ 256) where
     -- no link leads from 0, which is no position
@@ -120,17 +118,11 @@ module _ (p : ParsedRows) (sets credits : List ℕ) (held : List LetterSet) (las
         ends (suc u) ∙ ap₂ ◌||◌ (w.lasts (suc u) ∙ guard (kept (suc u)) (is_last 0 x (suc u)) (λ e. let o = last_own x 0 (suc u) e in lt-ltb (suc u) 61 (omega arith)))
         (ap (λ (b : Bool). p.part.empty && b) (ne_eqb 0 (suc u) (λ z. omega arith)) ∙ and-false p.part.empty) ∙ or-false (is_last 0 x (suc u))
 
-    held_at : (i c : ℕ) → has_letter (set_at held i) c ≡ holds (atom_at x i) c
-    held_at i c =
-        same i c
-        ∙ ap (λ (b : Bool). leb i p.part.n && b) (w.stored.has i c ∙ ap (λ (a : Atom). holds a c) (atom_kept_at x few i))
-        ∙ guard (leb i p.part.n) (holds (atom_at x i) c) (λ e. let o = holds_position x i c e in le-leb i p.part.n (omega (arith, w.count)))
-
     pub built_shown : graph_of_built made more ≡ graph_of x
     built_shown = λ t. record {
       positions = w.count t;
       links = λ u i. links_at u i t;
       last = λ u. last_at u t;
-      holds = λ i c. held_at i c t;
+      holds = λ i c. (w.stored.has i c ∙ ap (λ (a : Atom). holds a c) (atom_kept_at x few i)) t;
       credit = λ i. (w.stored.credit i ∙ ap (λ (a : Atom). a.credit) (atom_kept_at x few i)) t;
     }

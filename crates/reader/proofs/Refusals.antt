@@ -18,6 +18,7 @@ use Rattle.pattern.specs.Grammar.{read_pattern, is_pattern, pattern_part}
 use Rattle.pattern.specs.Positions.{atoms, positions, pattern_graph}
 use Rattle.pattern.specs.Refusals.{any_reversed, any_empty, any_misbounded, pattern_refusal, number_of}
 use Rattle.pattern.specs.declared.Refusal.{Refusal}
+use Rattle.letters.specs.declared.LetterSet.{LetterSet}
 use Rattle.parts.specs.Parsing.{ParsesAll}
 use Rattle.reader.specs.Read.{Reads}
 use Rattle.parsed.specs.declared.Parsed.{Parsed}
@@ -76,7 +77,7 @@ module _ (s : List ℕ) where
 -- ---- the tests as the code has them
 
 -- what was read is good and ends with the text
-pub whole_pattern : (s rows more sets credits : List ℕ) (p : Parsed) → ParsesAll s rows more sets credits p → (p.good && eqb p.at (length s)) ≡ is_pattern s
+pub whole_pattern : (s rows more : List ℕ) (sets : List LetterSet) (credits : List ℕ) (p : Parsed) → ParsesAll s rows more sets credits p → (p.good && eqb p.at (length s)) ≡ is_pattern s
 whole_pattern s rows more sets credits p r =
     let rest = (read_pattern s).rest in
     and_when p.good (eqb p.at (length s)) (eqb (length rest) 0)

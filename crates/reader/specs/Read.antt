@@ -1,5 +1,6 @@
 -- What reading a pattern gives: for every input its refusal, or the graph that it is built into with the links beyond the first.
 use Rattle.std.specs.Prelude.{◌≡◌, false, List, ℕ, ◌≤◌, Result, IfOk}
+use Rattle.letters.specs.declared.LetterSet.{LetterSet}
 use Rattle.graph.specs.Graph.{Bounded, SingleLinks}
 use Rattle.graph.specs.Built.{graph_of_built}
 use Rattle.graph.specs.declared.Built.{Built}
@@ -23,6 +24,6 @@ pub record Reads (s more : List ℕ) (r : Result Built Refusal) : Type 0 where
   pub built : IfOk r (BuiltFrom s more)
 
 -- of the rows and the tables of any part of up to 60 positions and up to 256 links from one state to another, its graph is built
-pub record Builds (p : ParsedRows) (sets credits : List ℕ) (r : Built) : Type 0 where
+pub record Builds (p : ParsedRows) (sets : List LetterSet) (credits : List ℕ) (r : Built) : Type 0 where
   pub graph : (x : Part) (more : List ℕ) → Kept (shape_of x) p.rows more sets credits p.part → positions x ≤ 60 → ((u i : ℕ) → links_of x u i ≤ 256) → graph_of_built r more ≡ graph_of x
   pub doubled : r.doubled ≡ p.part.doubled

@@ -1,14 +1,14 @@
 // Reading a pattern: its refusal, or the built pattern. `read` takes any bytes.
 #![tactic(auto)]
 
-ghost use Rattle.std.specs.Prelude.{◌≡◌, ◌≤◌};
+ghost use Rattle.std.specs.Prelude.{◌≡◌};
 ghost use Rattle.links.specs.Rows.{NoneCounted};
 ghost use Rattle.reader.specs.Read.{Reads, Builds};
 
 use graph::Built;
-use parsed::Tables;
 use parts::ParsedRows;
 use pattern::Refusal;
+use set_table::Tables;
 
 // The longest pattern, in bytes, and the most positions.
 const LONGEST: usize = 512;
@@ -28,7 +28,7 @@ pub fn read(s: &[u8], more: &mut [u8; 3721]) -> Result<Built, Refusal>
     if !alphabet::all_letters(s) {
         return Err(Refusal::PatternNotLetters);
     }
-    let mut tables = Tables::new();
+    let mut tables = Tables::empty();
     let p = parts::parse(s, &mut tables, more);
     let part = p.part;
     if !(part.good && part.at == s.len()) {
@@ -53,7 +53,6 @@ pub fn read(s: &[u8], more: &mut [u8; 3721]) -> Result<Built, Refusal>
 // A pattern that nothing refuses, built of its links and of the tables. The state 0, before any letter, gets its row, the firsts, and
 // is a last where the pattern can be empty.
 fn accepted(p: ParsedRows, tables: &Tables) -> Built
-    requires { p.part.n ≤ 60 }
     ensures { Builds p tables.now.sets tables.now.credits result }
 {
     let part = p.part;
@@ -64,7 +63,7 @@ fn accepted(p: ParsedRows, tables: &Tables) -> Built
         follow,
         doubled: part.doubled,
         lasts: bits::union_if(part.empty, part.lasts, bits::only(0)),
-        letters: set_table::sets(&tables.sets, part.n),
+        letters: tables.sets,
         credits: tables.credits,
     }
 }

@@ -13,8 +13,7 @@ use lib.ListN.{length, drop}
 use Rattle.std.specs.Prelude.{Option, Some, None, is_some, is_none}
 use Rattle.basics.proofs.Tests.{by_test, or_parts, or_cases, if_yes, if_no, le_or_lt}
 use Rattle.alphabet.specs.Alphabet.{some_letter}
-use Rattle.copies.specs.Copies as Copies
-use Rattle.set_table.specs.Table.{Repeats}
+use Rattle.set_table.specs.Tables.{Repeats}
 use Rattle.pattern.specs.Parts.{Atom, holds, Part, Bounds, out_of_bounds, written_out}
 use Rattle.pattern.proofs.Own.{some_position}
 use Rattle.pattern.proofs.Written.{in_bounds, written_refused}
@@ -23,7 +22,7 @@ use Rattle.pattern.specs.Positions.{atoms, positions, links}
 use Rattle.pattern.specs.Refusals.{some_reversed, any_reversed, any_empty}
 use Rattle.links.specs.Rows.{Adds, Counts}
 use Rattle.parsed.specs.declared.Parsed.{Parsed}
-use Rattle.parsed.specs.declared.Tables.{Tables}
+use Rattle.set_table.specs.declared.Tables.{Tables}
 use Rattle.parsed.specs.Tables.{Stored}
 use Rattle.parsed.specs.Parsed.{Shape, shape_of, Memory, memory, Keeps, Has, Stands}
 use Rattle.parsed.proofs.Shapes.{owns_part}
@@ -161,7 +160,7 @@ module _ (n : ℕ) (m now : Memory) (p : Parsed) (q : Part) (h : Has n m now (sh
         record { count = omega (arith, size); reversed = turned; hollow = hollowed; misbounded = named; keeps = λ f. absurd (omega (arith, size, l, f)); stores = λ f. absurd (omega (arith, size, l, f)) }
 
     -- room for them
-    module _ (w : ℕ) (rows' more' : List ℕ) (tables' : Tables) (r : Parsed) (room : n + number * w ≤ 60) (wide : p.n ≡ n + w) (s : Repeats (n + 1) (n + 1 + k * w) w now.tables.sets tables'.sets) (c : Copies.Repeats Copies.Same (n + 1) (n + 1 + k * w) w now.tables.credits tables'.credits) (ch : Chains w number b.lower b.endless now.rows now.more rows' more' (changed p good at p.n p.misbounded) r) where
+    module _ (w : ℕ) (rows' more' : List ℕ) (tables' : Tables) (r : Parsed) (room : n + number * w ≤ 60) (wide : p.n ≡ n + w) (s : Repeats (n + 1) (n + 1 + k * w) w now.tables tables') (ch : Chains w number b.lower b.endless now.rows now.more rows' more' (changed p good at p.n p.misbounded) r) where
       few : n + suc k * w ≤ 60
       few = subst (λ (v : ℕ). n + v * w ≤ 60) with_first room
 
@@ -174,9 +173,8 @@ module _ (n : ℕ) (m now : Memory) (p : Parsed) (q : Part) (h : Has n m now (sh
       stored : (al : List Atom) → length al ≡ n → Stored al m.tables.sets m.tables.credits → Stored (al ++ (chained q k).atoms) tables'.sets tables'.credits
       stored al l st =
           subst (λ (x : List Atom). Stored x tables'.sets tables'.credits) (with_chained q al k)
-          (stored_copies al (atoms q) k now.tables.sets now.tables.credits tables'.sets tables'.credits (some_position q) (subst (λ (u : ℕ × ℕ). u.0 + suc k * u.1 ≤ 60) turn few)
-          (subst (λ (u : ℕ × ℕ). Repeats (u.0 + 1) (u.0 + 1 + k * u.1) u.1 now.tables.sets tables'.sets) turn s)
-          (subst (λ (u : ℕ × ℕ). Copies.Repeats Copies.Same (u.0 + 1) (u.0 + 1 + k * u.1) u.1 now.tables.credits tables'.credits) turn c) (h.stores first_few al l st))
+          (stored_copies al (atoms q) k now.tables tables' (some_position q) (subst (λ (u : ℕ × ℕ). u.0 + suc k * u.1 ≤ 60) turn few)
+          (subst (λ (u : ℕ × ℕ). Repeats (u.0 + 1) (u.0 + 1 + k * u.1) u.1 now.tables tables') turn s) (h.stores first_few al l st))
         where
           turn : ◌≡◌ {A = ℕ × ℕ} (n, w) (length al, length (atoms q))
           turn t = (sym l t, sym width t)

@@ -17,7 +17,7 @@ use Rattle.pattern.specs.Grammar.{Read, read, broken, peek, interval, no_interva
 use Rattle.bounds.specs.declared.IntervalRead.{IntervalRead}
 use Rattle.bounds.specs.Bounds.{bounds_of}
 use Rattle.parsed.specs.declared.Parsed.{Parsed}
-use Rattle.parsed.specs.declared.Tables.{Tables}
+use Rattle.set_table.specs.declared.Tables.{Tables}
 use Rattle.parsed.specs.declared.Repeat.{Repeat}
 use Rattle.parsed.specs.declared.Repeat.TheVariants.{Optional, Star, Plus}
 use Rattle.parsed.specs.Parsed.{shape_of, Memory, memory, Stands, rule_of, Repeats}

@@ -8,14 +8,12 @@ use native.Mathlib.Omega.{arith}
 use lib.ListN.{length, get_or, length-append, get_or-append, get_or-eq_default}
 use lib.Seq.{take_all, get_or-append-add}
 use Rattle.basics.proofs.Tests.{le_or_lt}
-use Rattle.letters.specs.LetterSet.{has_letter}
-use Rattle.letters.specs.declared.LetterSet.{LetterSet}
-use Rattle.copies.specs.Copies as Copies
-use Rattle.set_table.specs.Table.{set_in, Repeats}
-use Rattle.graph.specs.Built.{lowered}
-use Rattle.pattern.specs.Parts.{Atom, holds}
+use Rattle.set_table.specs.declared.Tables.{Tables}
+use Rattle.set_table.specs.Tables.{entry_at, Repeats}
+use Rattle.pattern.specs.Parts.{Atom}
 use Rattle.pattern.specs.Grammar.{no_atom}
 use Rattle.parsed.specs.Tables.{atom_of, Stored}
+use Rattle.parsed.proofs.Storing.{Fits}
 
 module _ (al xs : List Atom) where
   abbrev n : ℕ
@@ -82,25 +80,11 @@ module _ (al xs : List Atom) where
         subst (λ (f : F). Has f (get_or (no_atom ∷ with (suc k)) i no_atom)) (sym (above i (omega arith)))
         (subst (Has (shown i)) (ap (λ (ys : List Atom). get_or (no_atom ∷ ys) i no_atom) (take_all 60 (al ++ xs) (omega arith)) ∙ get_or-eq_default (no_atom ∷ (al ++ xs)) no_atom {n = i} (omega arith) ∙ sym (get_or-eq_default (no_atom ∷ with (suc k)) no_atom {n = i} (omega arith))) (base i))) (le_or_lt i (n + suc k * w)))
 
--- a set and a credit that are an atom's
-record Fits (f : LetterSet × ℕ) (a : Atom) : Type 0 where
-  has : (c : ℕ) → has_letter f.0 c ≡ holds a c
-  credit : lowered 1 f.1 ≡ a.credit
-  small : f.1 ≤ 18
-
--- the entries of both tables
-abbrev shown : List ℕ → List ℕ → ℕ → LetterSet × ℕ
-shown t u i = (set_in t i, get_or u i 9)
-
-pub stored_copies : (al xs : List Atom) (k : ℕ) (sets credits sets' credits' : List ℕ) → 0 < length xs → length al + suc k * length xs ≤ 60
-    → Repeats (length al + 1) (length al + 1 + k * length xs) (length xs) sets sets' → Copies.Repeats Copies.Same (length al + 1) (length al + 1 + k * length xs) (length xs) credits credits'
-    → Stored (al ++ xs) sets credits → Stored (with al xs (suc k)) sets' credits'
-stored_copies al xs k sets credits sets' credits' some few s c st = record { has = λ i. (fits i).has; credit = λ i. (fits i).credit; small = λ i. (fits i).small }
+pub stored_copies : (al xs : List Atom) (k : ℕ) (tables tables' : Tables) → 0 < length xs → length al + suc k * length xs ≤ 60
+    → Repeats (length al + 1) (length al + 1 + k * length xs) (length xs) tables tables' → Stored (al ++ xs) tables.sets tables.credits → Stored (with al xs (suc k)) tables'.sets tables'.credits
+stored_copies al xs k tables tables' some few r st = record { has = λ i. (fits i).has; credit = λ i. (fits i).credit; small = λ i. (fits i).small }
   where
-    fits : (i : ℕ) → Fits (shown sets' credits' i) (atom_of (with al xs (suc k)) i)
+    fits : (i : ℕ) → Fits (entry_at tables' i) (atom_of (with al xs (suc k)) i)
     fits =
         let o = suc-mul k (length xs) in
-        all_copies al xs Fits k few (shown sets credits) (shown sets' credits') (λ i. record { has = st.has i; credit = st.credit i; small = st.small i })
-        (λ i h t. (s.below i h t, c.below 9 i h t))
-        (λ i h l t. (s.copied i h l t, c.copied 9 i h l t))
-        (λ i h t. (s.above i h t, c.above 9 i h t))
+        all_copies al xs Fits k few (entry_at tables) (entry_at tables') (λ i. record { has = st.has i; credit = st.credit i; small = st.small i }) r.below r.copied r.above

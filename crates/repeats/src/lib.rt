@@ -10,7 +10,8 @@ ghost use Rattle.chains.specs.Chains.{how_many};
 ghost use Rattle.repeats.specs.Repeats.{Placed, WritesOut};
 
 use bounds::IntervalRead;
-use parsed::{Parsed, Repeat, Tables};
+use parsed::{Parsed, Repeat};
+use set_table::Tables;
 
 // What repeats an atom that has the positions after n, if anything does.
 pub fn repeat(
@@ -69,8 +70,7 @@ fn interval(
         return Parsed { n: 61, ..read };
     }
     let end = n + 1 + (copies - 1) * w;
-    set_table::repeat(&mut tables.sets, n + 1, end, w);
-    copies::entries(&mut tables.credits, n + 1, end, w);
+    tables.repeat(n + 1, end, w);
     chains::chain(read, w, copies, i.lower, i.upper.is_none(), rows, more)
 }
 

@@ -1,1 +1,1 @@
-pub mod Tables
+pub mod Entries

@@ -1,2 +1,2 @@
--- Tables of sets of letters.
-pub mod Table
+-- Tables of letters and credits.
+pub mod Tables

@@ -1,5 +1,4 @@
--- The rows with the firsts in row 0, the lasts with 0 among them where the pattern can be empty, and the sets of the table.
--- Assumes nothing.
+-- The rows with the firsts in row 0, and the lasts with 0 among them where the pattern can be empty. Assumes nothing.
 use mathlib.Core.Path.{◌≡◌, refl, ap, ◌∙◌}
 use mathlib.Core.Bool.{Bool, ◌&&◌, ◌||◌}
 use native.Mathlib.Omega.{arith}
@@ -14,7 +13,7 @@ returns c =
     let start = c.args in
     let rows : length start.p.rows ≡ 61 = search rules in
     record {
-      graph = built_shown start.p start.tables.now.sets start.tables.now.credits c.sets.result c.union_if.result (omega arith) c.sets.ensures
+      graph = built_shown start.p start.tables.now.sets start.tables.now.credits c.union_if.result (omega arith)
           (λ j. c.union_if.ensures j ∙ ap (λ (x : Bool). has_bit start.p.part.lasts j || (start.p.part.empty && x)) (c.only.ensures j));
       doubled = refl;
     }

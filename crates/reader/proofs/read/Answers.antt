@@ -14,7 +14,9 @@ use Rattle.basics.proofs.Tests.{and_of, and_parts}
 use Rattle.pattern.specs.Grammar.{read_pattern, is_pattern, pattern_part}
 use Rattle.pattern.specs.Positions.{positions}
 use Rattle.alphabet.specs.Alphabet.{all_letters}
+use Rattle.letters.specs.declared.LetterSet.{LetterSet}
 use Rattle.parsed.specs.Parsed.{shape_of}
+use Rattle.parsed.proofs.Storing.{none_stored}
 use Rattle.parsed.specs.declared.Parsed.{Parsed}
 use Rattle.parts.specs.Parsing.{Whole, ParsesAll}
 use Rattle.reader.proofs.Depth.{links_few}
@@ -24,7 +26,7 @@ use Rattle.reader.proofs.read.Goals as goal
 
 -- ---- the tests that do not apply, one after the other
 
-module _ {s rows more sets credits : List ℕ} {p : Parsed} (short : length s ≤ 512) (letters : all_letters s ≡ true) (reads : ParsesAll s rows more sets credits p) where
+module _ {s rows more : List ℕ} {sets : List LetterSet} {credits : List ℕ} {p : Parsed} (short : length s ≤ 512) (letters : all_letters s ≡ true) (reads : ParsesAll s rows more sets credits p) where
   passes_2 : Passes s 2
   passes_2 = fails_more (tests s) 1 (le-ltb 512 (length s) short, tt) (ap not letters)
 
@@ -72,7 +74,7 @@ returns-then-not-all_letters c =
     refuses s 1 _ _ refl (le-ltb 512 (length s) c.if-s-gt-LONGEST.false, tt) (ap not (sym c.all_letters.ensures ∙ c.if-not-all_letters.true))
 
 pub parse-p-requires : goal.parse-p-requires
-parse-p-requires c = (c.new-tables.ensures, c.requires)
+parse-p-requires c = (none_stored _ _ c.empty-tables.ensures.0 c.empty-tables.ensures.1, c.requires)
 
 pub returns-then-not-part-s : goal.returns-then-not-part-s
 returns-then-not-part-s c =

@@ -37,4 +37,4 @@ returns c s from m R g w on within =
     written_stands s from _ m _ _ R c.args.p _ (bounds_of i) c.args.at w g on within (made.good ∙ g) made.place
     (λ h.
     has_few _ m _ _ R.part h c.args.p.good c.args.at (bounds_of i) copies.result (sym c.out_of_bounds.ensures ∙ c.if-out_of_bounds.false) copies.ensures some (c.args.p.n - c.args.n) _ _ _ _ enough.2 (omega (arith, c.requires.on))
-    c.repeat.ensures c.entries.ensures made)
+    c.repeat.ensures made)
