@@ -21,9 +21,9 @@ count_of m row = min (sum_if (has_bit m) row 61) (2 ^ 63)
 abbrev pub most_of : ℕ → (ℕ → ℕ) → ℕ
 most_of m row = most_if (has_bit m) row 61
 
--- what `gives` makes of the counts of a row is v, as far as 2 ^ 63
-abbrev pub Weighs : (ℕ → ℕ → ℕ → Type 0) → (ℕ → ℕ) → (ℕ → ℕ) → Type 0
-Weighs gives row v = (u n : ℕ) → u < 61 → gives u (row u) n → min n (2 ^ 63) ≡ min (v u) (2 ^ 63)
+-- `gives` adds to a sum what v says of each state that has a count in the row, as far as 2 ^ 63
+abbrev pub Adds : (ℕ → ℕ → ℕ → ℕ → Type 0) → (ℕ → ℕ) → (ℕ → ℕ) → Type 0
+Adds gives row v = (sum u n : ℕ) → u < 61 → gives sum u (row u) n → n ≡ min (sum + v u) (2 ^ 63)
 
 -- before any letter: state 0 alone, with one reading that has earned nothing
 pub record Begun (row : Row) : Type 0 where

@@ -30,7 +30,7 @@ pub struct Row {
 impl Row {
     ghost use Rattle.std.specs.Prelude.{true, bit_and};
     ghost use Rattle.bits.specs.Bits.{has_bit};
-    ghost use Rattle.frontier.specs.Rows.{Begun, Stepped, count_at, most_at, count_of, most_of, weighted, Weighs};
+    ghost use Rattle.frontier.specs.Rows.{Begun, Stepped, count_at, most_at, count_of, most_of, weighted, Adds};
 
     // Before any letter: state 0 alone is possible, by one reading that has earned nothing.
     pub fn start() -> Row
@@ -68,8 +68,11 @@ impl Row {
         ensures { (result.count ≡ count_of members (weighted links.now.more i (count_at self.now.cells))) × (result.most ≡ most_of members (most_at self.now.cells)) }
     {
         match links.more {
-            Some(more) => self.gather(members, |u, count| times(count, more[61 * u + i])),
-            None => self.gather(members, |_, count| count),
+            Some(more) => self.gather(
+                members,
+                |sum, u, count| plus_times(sum, count, more[61 * u + i]),
+            ),
+            None => self.gather(members, |sum, _, count| plus(sum, count)),
         }
     }
 
@@ -77,20 +80,20 @@ impl Row {
     pub fn total(&self, lasts: u64) -> Cell
         ensures { (result.count ≡ count_of (bit_and self.now.active lasts) (count_at self.now.cells)) × (result.most ≡ most_of (bit_and self.now.active lasts) (most_at self.now.cells)) }
     {
-        self.gather(self.active & lasts, |_, count| count)
+        self.gather(self.active & lasts, |sum, _, count| plus(sum, count))
     }
 
-    // The cells of the members of a set taken together, each count as `weigh` gives it.
-    fn gather<F: Fn(usize, u64) -> u64>(&self, members: u64, weigh: F) -> Cell
-        requires { (members < 2 ^ 61) × ((u : ℕ) → u < 61 → F.pre weigh u (count_at self.now.cells u)) }
-        ensures { ((v : ℕ → ℕ) → Weighs (F.post weigh) (count_at self.now.cells) v → result.count ≡ count_of members v)
+    // The cells of the members of a set taken together, each count put to the sum by `add`.
+    fn gather<F: Fn(u64, usize, u64) -> u64>(&self, members: u64, add: F) -> Cell
+        requires { (members < 2 ^ 61) × ((sum u : ℕ) → u < 61 → F.pre add sum u (count_at self.now.cells u)) }
+        ensures { ((v : ℕ → ℕ) → Adds (F.post add) (count_at self.now.cells) v → result.count ≡ count_of members v)
             × (result.most ≡ most_of members (most_at self.now.cells)) }
     {
         let mut count = 0;
         let mut most = 0;
         for u in bits::members(members) {
             let cell = self.cells[u];
-            count = plus(count, weigh(u, cell.count));
+            count = add(count, u, cell.count);
             most = cell.most.max(most);
         }
         Cell { count, most }
@@ -111,10 +114,14 @@ fn plus(x: u64, y: u64) -> u64
     }
 }
 
-// A number taken once, and as often again as `more` says, 2^63 where that is above it.
-fn times(x: u64, more: u8) -> u64
-    ensures { result ≡ min (suc more * x) (2 ^ 63) }
+// The same for a sum and a number taken once, and as often again as `more` says. A sum that has stopped needs no product.
+fn plus_times(sum: u64, x: u64, more: u8) -> u64
+    ensures { result ≡ min (sum + suc more * x) (2 ^ 63) }
 {
-    let product = x as u128 * (more as u128 + 1);
-    product.min(MOST as u128) as u64
+    if sum < MOST {
+        let product = x as u128 * (more as u128 + 1);
+        plus(sum, product.min(MOST as u128) as u64)
+    } else {
+        MOST
+    }
 }

@@ -14,8 +14,8 @@ offset_bounds-self-u g c = let low = below c.loop-u.invariant.2 c.in-Some.ensure
 pub bounds-self-u : goal.bounds-self-u
 bounds-self-u g c = below c.loop-u.invariant.2 c.in-Some.ensures.steps
 
-pub weigh-requires : goal.weigh-requires
-weigh-requires g c = c.requires.1 c.in-Some.u (below c.loop-u.invariant.2 c.in-Some.ensures.steps)
+pub add-count-requires : goal.add-count-requires
+add-count-requires g c = c.requires.1 c.loop-u.count c.in-Some.u (below c.loop-u.invariant.2 c.in-Some.ensures.steps)
 
 pub loop-u-preserved : goal.loop-u-preserved
 loop-u-preserved g c =
@@ -24,8 +24,8 @@ loop-u-preserved g c =
     let low = below at.invariant.2 step in (
       tt,
       tt,
-      gathering_on _ _ c.args.members at.u-iterator.left at.count at.most at.invariant.2 c.in-Some.u c.next.new.self.left c.weigh.result _ _ step
-          (λ v k. k c.in-Some.u c.weigh.result low c.weigh.ensures) c.plus-count.ensures (omega arith),
+      gathering_on _ _ c.args.members at.u-iterator.left at.count at.most at.invariant.2 c.in-Some.u c.next.new.self.left c.add-count.result _ step
+          (λ v k. k at.count c.in-Some.u c.add-count.result low c.add-count.ensures) (omega arith),
     )
 
 pub returns : goal.returns
