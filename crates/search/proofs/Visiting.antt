@@ -31,10 +31,6 @@ use Rattle.nodes.proofs.Nodes.{number, node_low, node_told, numbered_fits, step_
 -- ---- the queue after a node is taken up
 
 module _ (s : List ℕ) (y h t : ℕ) (long : 4096 ≤ length s) (room : t < 2048) where
-  up_long : length (enqueue s y h t) ≡ length s
-  unfolding enqueue
-  up_long = length-set (set s t y) (2048 + t) h ∙ length-set s t y
-
   pub up_last : queue (enqueue s y h t) t ≡ y
   unfolding enqueue
   up_last = get_or-set_other (set s t y) (2048 + t) t h 0 (λ e. omega arith) ∙ get_or-set_same s t y 0 (omega arith)
@@ -57,7 +53,7 @@ module _ (s : List ℕ) (y h t : ℕ) (long : 4096 ≤ length s) (room : t < 204
 one_more : (t : ℕ) (P : ℕ → Type 0) → ((i : ℕ) → i < t → P i) → P t → (i : ℕ) → i < t + 1 → P i
 one_more t P f p i l = by_equal i t (λ e. subst P (sym e) p) (λ d. f i (omega arith))
 
-module _ {E : ℕ → ℕ → Type 0} {T : ℕ → Bool} {s : List ℕ} {h t : ℕ} (w : SoundQueue E T s h t) where
+module _ {E : ℕ → ℕ → Type 0} {T : ℕ → Bool} {s : List ℕ} {h t : ℕ} (long : 4096 ≤ length s) (w : SoundQueue E T s h t) where
   -- ---- how many there can be
 
   pub few_nodes : t ≤ 1891
@@ -78,10 +74,10 @@ module _ {E : ℕ → ℕ → Type 0} {T : ℕ → Bool} {s : List ℕ} {h t : �
     s' = enqueue s y h t
 
     last : queue s' t ≡ y
-    last = up_last s y h t w.long room
+    last = up_last s y h t long room
 
     old : (i : ℕ) → i < t → queue s' i ≡ queue s i
-    old = up_before s y h t w.long room
+    old = up_before s y h t long room
 
     still : (x : ℕ) → Queued s t x → Queued s' (t + 1) x
     still x q = let k = q.low in record { at = q.at; low = omega arith; is = old q.at k ∙ q.is }
@@ -93,7 +89,6 @@ module _ {E : ℕ → ℕ → Type 0} {T : ℕ → Bool} {s : List ℕ} {h t : �
 
     pub enqueued : SoundQueue E T' s' h (t + 1)
     enqueued = record {
-      long = subst (λ (n : ℕ). 4096 ≤ n) (sym (up_long s y h t w.long room)) w.long;
       begun = omega arith;
       within = omega arith;
       few = omega (arith, room);
@@ -108,29 +103,28 @@ module _ {E : ℕ → ℕ → Type 0} {T : ℕ → Bool} {s : List ℕ} {h t : �
       back = λ i z k. one_more t (λ i. 0 < i → (back_of s' i < i) × E (queue s' (back_of s' i)) (queue s' i))
           (λ i k z.
           let b = w.back i z k in
-          let e = up_back_before s y h t w.long room i k in
+          let e = up_back_before s y h t long room i k in
           (omega arith, subst (λ (j : ℕ). E (queue s' j) (queue s' i)) (sym e) (subst (λ (x : ℕ). E x (queue s' i)) (sym (old (back_of s i) (omega arith))) (subst (E (queue s (back_of s i))) (sym (old i k)) b.1))))
           (λ z.
-          let e = up_back s y h t w.long room in
+          let e = up_back s y h t long room in
           (omega arith, subst (λ (j : ℕ). E (queue s' j) (queue s' t)) (sym e) (subst (λ (x : ℕ). E x (queue s' t)) (sym (old h l)) (subst (E (queue s h)) (sym last) st)))) i k z;
       closed = λ i k x q. still x (w.closed i k x (subst (λ (u : ℕ). E u x) (old i (omega arith)) q));
     }
 
-  -- ---- the head is passed
+-- ---- the head is passed
 
-  pub passed : h < t → ((y : ℕ) → E (queue s h) y → IsNode y × (T y ≡ true)) → SoundQueue E T s (h + 1) t
-  passed l spent = record {
-    long = w.long;
-    begun = w.begun;
-    within = omega arith;
-    few = w.few;
-    nodes = w.nodes;
-    taken_up = w.taken_up;
-    queued = w.queued;
-    differ = w.differ;
-    back = w.back;
-    closed = λ i k. one_more h (λ i. (y : ℕ) → E (queue s i) y → Queued s t y) w.closed (λ y q. let p = spent y q in w.queued y p.0 p.1) i k;
-  }
+pub passed : {E : ℕ → ℕ → Type 0} {T : ℕ → Bool} {s : List ℕ} {h t : ℕ} → SoundQueue E T s h t → h < t → ((y : ℕ) → E (queue s h) y → IsNode y × (T y ≡ true)) → SoundQueue E T s (h + 1) t
+passed {E} {s = s} {h} {t} w l spent = record {
+  begun = w.begun;
+  within = omega arith;
+  few = w.few;
+  nodes = w.nodes;
+  taken_up = w.taken_up;
+  queued = w.queued;
+  differ = w.differ;
+  back = w.back;
+  closed = λ i k. one_more h (λ i. (y : ℕ) → E (queue s i) y → Queued s t y) w.closed (λ y q. let p = spent y q in w.queued y p.0 p.1) i k;
+}
 
 -- ---- once it is over
 
@@ -157,7 +151,6 @@ begun E T s x long node takes =
     let first = up_last s x 0 0 long (omega arith) in
     let at : (i : ℕ) → i < 1 → queue (enqueue s x 0 0) i ≡ x = λ i l. (let e : i ≡ 0 = omega arith in ap (queue (enqueue s x 0 0)) e ∙ first) in
     record {
-      long = subst (λ (n : ℕ). 4096 ≤ n) (sym (up_long s x 0 0 long (omega arith))) long;
       begun = omega arith;
       within = omega arith;
       few = omega arith;
@@ -202,8 +195,8 @@ gone_on steps {seen} {seen'} {y} pending x up g a b p n =
     let z = pack a b in
     sym (taken_pair seen' a b h) ∙ up.takes z (pack_node a b h) ∙ or_left (taken seen z) (eqb y z) (taken_pair seen a b h ∙ g a b p n)
 
-pub few_taken : {steps : Steps} {s : List ℕ} {w : Search} → SoundSearch steps s w → w.tail ≤ 1891
-few_taken sound = few_nodes sound.queue
+pub few_taken : {steps : Steps} {s : List ℕ} {w : Search} → 4096 ≤ length s → SoundSearch steps s w → w.tail ≤ 1891
+few_taken long sound = few_nodes long sound.queue
 
 -- the head is passed
 pub passed_on : {steps : Steps} {s : List ℕ} {w w' : Search} (x : Node) → SoundSearch steps s w → w.head < w.tail → Numbered (queue s w.head) x → Finds steps w.seen w.pending x None
@@ -224,23 +217,23 @@ passed_on {steps} {s} {w} {w'} x sound l at none h t p same =
     }
 
 -- a node is taken up
-pub took : {steps : Steps} {s s' : List ℕ} {w w' : Search} (x : Node) {r : Next} → SoundSearch steps s w → w.head < w.tail → Numbered (queue s w.head) x → Found steps w.seen w.pending (number_of x) r
+pub took : {steps : Steps} {s s' : List ℕ} {w w' : Search} (x : Node) {r : Next} → 4096 ≤ length s → SoundSearch steps s w → w.head < w.tail → Numbered (queue s w.head) x → Found steps w.seen w.pending (number_of x) r
     → s' ≡ enqueue s (number_of r.node) w.head w.tail → TakenUp w.seen w'.seen (number_of r.node) → w'.head ≡ w.head → w'.tail ≡ w.tail + 1 → w'.pending ≡ r.pending → TookUp steps s s' w w' w.tail r.node
-took {steps} {s} {s'} {w} {w'} x {r} sound l at f e up h t p =
+took {steps} {s} {s'} {w} {w'} x {r} long sound l at f e up h t p =
     let y = number_of r.node in
     let is = (numbered_fits (queue s w.head) x (sound.queue.nodes w.head l) at).1 in
     let q = fresh w.seen steps (queue s w.head) y (subst (λ (n : ℕ). Fresh steps w.seen n y) is f.fresh) in
     let node = step_node steps (queue s w.head) y q.0 in
     let T' = taken w'.seen in
-    let low = few_taken sound in
-    let old : (i : ℕ) → i < w.tail → queue s' i ≡ queue s i = λ i k. ap (λ (x : List ℕ). queue x i) e ∙ up_before s y w.head w.tail sound.queue.long (omega arith) i k in
-    let last = up_last s y w.head w.tail sound.queue.long (omega arith) in
+    let low = few_taken long sound in
+    let old : (i : ℕ) → i < w.tail → queue s' i ≡ queue s i = λ i k. ap (λ (x : List ℕ). queue x i) e ∙ up_before s y w.head w.tail long (omega arith) i k in
+    let last = up_last s y w.head w.tail long (omega arith) in
     let gone = subst (λ (n : ℕ). Gone steps w.seen w.pending n → Gone steps w.seen r.pending n) is f.gone sound.gone in
     record {
       sound = record {
         queue = subst (λ (n : ℕ). SoundQueue (Step steps) T' s' n w'.tail) (sym h)
             (subst (λ (n : ℕ). SoundQueue (Step steps) T' s' w.head n) (sym t)
-            (subst (λ (x : List ℕ). SoundQueue (Step steps) T' x w.head (w.tail + 1)) (sym e) (enqueued sound.queue T' y l q.0 node q.1 up.takes)));
+            (subst (λ (x : List ℕ). SoundQueue (Step steps) T' x w.head (w.tail + 1)) (sym e) (enqueued long sound.queue T' y l q.0 node q.1 up.takes)));
         gone = subst (λ (n : ℕ). Gone steps w'.seen n (queue s' w'.head)) (sym p)
             (subst (λ (n : ℕ). Gone steps w'.seen r.pending (queue s' n)) (sym h)
             (subst (λ (x : ℕ). Gone steps w'.seen r.pending x) (sym (old w.head l)) (gone_on steps r.pending (queue s w.head) up gone)));

@@ -1,6 +1,6 @@
 -- A search under way, breadth first. The queue stands in the lent numbers: the i-th node taken up at i, and at 2048 + i the
 -- queue number of the node before it on the way.
-use Rattle.std.specs.Prelude.{◌≡◌, Bool, true, false, ◌&&◌, not, List, ℕ, ◌+◌, ◌/◌, ◌%◌, ◌≤◌, ◌<◌, ltb, get_or, length, set, if◌then◌else◌, Option, None, Some}
+use Rattle.std.specs.Prelude.{◌≡◌, Bool, true, false, ◌&&◌, not, List, ℕ, ◌+◌, ◌/◌, ◌%◌, ◌≤◌, ◌<◌, ltb, get_or, set, if◌then◌else◌, Option, None, Some}
 use Rattle.basics.specs.Lists.{end_of, Chain}
 use Rattle.bits.specs.Bits.{has_bit}
 use Rattle.graph.specs.Graph.{Graph}
@@ -26,7 +26,6 @@ pub record Queued (s : List ℕ) (n x : ℕ) : Type 0 where
 
 -- what holds of the queue between visits, for any steps E and any test of what is taken up
 pub record SoundQueue (E : ℕ → ℕ → Type 0) (is_taken : ℕ → Bool) (s : List ℕ) (head tail : ℕ) : Type 0 where
-  pub long : 4096 ≤ length s
   pub begun : 0 < tail
   pub within : head ≤ tail
   pub few : tail ≤ 2048

@@ -31,22 +31,39 @@ impl Goal {
     }
 }
 
-// The lent numbers: at i the i-th node taken up, and at BACK + i the queue number of the node that it was taken up from. No two
-// nodes are one and there are 1891 at most, so 4,096 numbers are enough, and what they held before is never read.
+// The numbers lent to a search: at i the i-th node taken up, and at BACK + i the queue number of the node that it was taken up from.
+// No two nodes are one and there are 1891 at most, so 4,096 numbers are enough, and what they held before is never read.
+#[derive(Drop)]
+pub struct Scratch<'a> {
+    pub numbers: &'a mut [u16],
+    pub ghost room: { 4096 ≤ length numbers.now },
+}
+
 const BACK: usize = 2048;
 
-// The queue number of the node that the i-th was taken up from.
-pub fn before(scratch: &[u16], i: usize) -> usize
-    requires { (4096 ≤ length scratch.now) × (i < 2048) }
-    ensures { result ≡ back_of scratch.now i }
-{
-    scratch[BACK + i] as usize
+impl Scratch<'_> {
+    // The queue number of the node that the i-th was taken up from.
+    pub fn before(&self, i: usize) -> usize
+        requires { i < 2048 }
+        ensures { result ≡ back_of self.now.numbers.now i }
+    {
+        self.numbers[BACK + i] as usize
+    }
+
+    // The queue with the number of a node at its end, taken up from the one with queue number `from`.
+    fn push(&mut self, tail: usize, number: u16, from: usize)
+        requires { (tail < 2048) × (from < 2048) }
+        ensures { self.new.numbers.now ≡ enqueue self.old.numbers.now number from tail }
+    {
+        self.numbers[tail] = number;
+        self.numbers[BACK + tail] = from as u16;
+    }
 }
 
 // The search from a state to a goal: the queue number of the first that is found.
-pub fn to_goal(steps: &Steps, scratch: &mut [u16], goal: Goal, start: usize) -> Option<usize>
-    requires { (4096 ≤ length scratch.old) × (start ≤ 60) }
-    ensures { Searched steps.now scratch.new goal start result }
+pub fn to_goal(steps: &Steps, scratch: &mut Scratch, goal: Goal, start: usize) -> Option<usize>
+    requires { start ≤ 60 }
+    ensures { Searched steps.now scratch.new.numbers.now goal start result }
 {
     let mut search = Search::begin(&mut *scratch, start);
     if goal.is_met(Node::Together(start)) {
@@ -61,8 +78,8 @@ pub fn to_goal(steps: &Steps, scratch: &mut [u16], goal: Goal, start: usize) -> 
 }
 
 // The first position with two different loops back to itself over one text.
-pub fn first_pivot(steps: &Steps, scratch: &mut [u16], positions: usize) -> Option<usize>
-    requires { (4096 ≤ length scratch.old) × (positions ≤ 60) }
+pub fn first_pivot(steps: &Steps, scratch: &mut Scratch, positions: usize) -> Option<usize>
+    requires { positions ≤ 60 }
     ensures { (g : Graph) → Tables g steps.now → g.positions ≡ positions → IsFirstPivot g result }
 {
     let mut first = None;
@@ -94,11 +111,11 @@ struct Search {
 
 impl Search {
     // A search that has taken up its first node.
-    fn begin(scratch: &mut [u16], start: usize) -> Search
-        requires { (4096 ≤ length scratch.old) × (start ≤ 60) }
-        ensures { (t : Steps) → Begun t scratch.new start result }
+    fn begin(scratch: &mut Scratch, start: usize) -> Search
+        requires { start ≤ 60 }
+        ensures { (t : Steps) → Begun t scratch.new.numbers.now start result }
     {
-        push(&mut *scratch, 0, Node::Together(start), 0);
+        scratch.push(0, start as u16, 0);
         Search {
             head: 0,
             tail: 1,
@@ -109,15 +126,15 @@ impl Search {
 
     // One visit: one node more is taken up, the first new one that is a step on from the head of the queue, and given with its queue
     // number. A head with none is passed.
-    fn visit(&mut self, steps: &Steps, scratch: &mut [u16]) -> Option<(usize, Node)>
-        requires { SoundSearch steps.now scratch.old self.old }
-        ensures { Visited steps.now scratch.old scratch.new self.old self.new result }
+    fn visit(&mut self, steps: &Steps, scratch: &mut Scratch) -> Option<(usize, Node)>
+        requires { SoundSearch steps.now scratch.old.numbers.now self.old }
+        ensures { Visited steps.now scratch.old.numbers.now scratch.new.numbers.now self.old self.new result }
     {
         while self.head < self.tail {
-            let x = Node::from(scratch[self.head]);
+            let x = Node::from(scratch.numbers[self.head]);
             if let Some(next) = steps.next_new(&self.seen, self.pending, x) {
                 let i = self.tail;
-                push(&mut *scratch, i, next.node, self.head);
+                scratch.push(i, next.node.number(), self.head);
                 self.seen.take_up(next.node);
                 self.pending = next.pending;
                 self.tail = i + 1;
@@ -128,13 +145,4 @@ impl Search {
         }
         None
     }
-}
-
-// The queue with a node at its end, taken up from the one with queue number `from`.
-fn push(scratch: &mut [u16], tail: usize, node: Node, from: usize)
-    requires { (4096 ≤ length scratch.old) × (tail < 2048) × Fits node × (from < 2048) }
-    ensures { scratch.new ≡ enqueue scratch.old (number_of node) from tail }
-{
-    scratch[tail] = node.number();
-    scratch[BACK + tail] = from as u16;
 }

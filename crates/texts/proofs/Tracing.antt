@@ -160,7 +160,7 @@ along {s = s} w i j nodes l (before {j = k} {nodes = c} p o) =
     wider less y a = let more = a.more in record { at = a.at; more = omega arith; most = a.most; is = a.is }
 
 pub leads_back : {E : ℕ → ℕ → Type 0} {T : ℕ → Bool} {s : List ℕ} {h t : ℕ} (i : ℕ) → SoundQueue E T s h t → i < t → LeadsBack s (i + 1)
-leads_back i w l = let few = w.few in record { long = w.long; few = omega arith; lower = λ j p k. (w.back j p (omega arith)).0 }
+leads_back i w l = let few = w.few in record { few = omega arith; lower = λ j p k. (w.back j p (omega arith)).0 }
 
 -- ---- a search that found its goal, with the text of the way to it
 
@@ -168,14 +168,14 @@ module _ {t : Steps} {s : List ℕ} {goal : Goal} {u i : ℕ} (r : Reached t s g
   pub found_leads_back : LeadsBack s (i + 1)
   found_leads_back = leads_back i r.sound r.low
 
-  pub found_few : i ≤ 1890
-  found_few = omega (arith, few_nodes r.sound, r.low)
+  pub found_few : 4096 ≤ length s → i ≤ 1890
+  found_few long = omega (arith, few_nodes long r.sound, r.low)
 
   pub found_steps : (P : ℕ → Type 0) → ((x y : ℕ) → Step t x y → P y) → (j : ℕ) → 0 < j → j ≤ i → P (queue s j)
   found_steps P f j l k = f (queue s (back_of s j)) (queue s j) (r.sound.back j l (omega (arith, r.low))).1
 
-  pub shown_text : {sets : List LetterSet} {e e' : List ℕ} {base n : ℕ} → n ≤ i → Traced sets s e e' i base n → ShownText sets t e e' goal u base n
-  shown_text l tr =
+  pub shown_text : {sets : List LetterSet} {e e' : List ℕ} {base n : ℕ} → 4096 ≤ length s → n ≤ i → Traced sets s e e' i base n → ShownText sets t e e' goal u base n
+  shown_text long l tr =
       let a = along r.sound i 0 tr.nodes r.low tr.way in
       record {
         nodes = tr.nodes;
@@ -183,6 +183,6 @@ module _ {t : Steps} {s : List ℕ} {goal : Goal} {u i : ℕ} (r : Reached t s g
         apart = a.apart;
         meets = ap (λ (x : ℕ). is_goal goal (end_of x tr.nodes)) (sym r.first) ∙ ap (is_goal goal) a.ends ∙ r.meets;
         size = tr.size;
-        few = omega (arith, found_few);
+        few = omega (arith, found_few long);
         text = tr.text;
       }

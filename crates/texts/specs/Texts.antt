@@ -25,7 +25,6 @@ pub record Showable (sets : List LetterSet) (x : ℕ) : Type 0 where
 
 -- the first n of the queue each but the first lead back to an earlier one
 pub record LeadsBack (s : List ℕ) (n : ℕ) : Type 0 where
-  pub long : 4096 ≤ length s
   pub few : n ≤ 2048
   pub lower : (i : ℕ) → 0 < i → i < n → back_of s i < i
 

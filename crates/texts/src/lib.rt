@@ -9,19 +9,19 @@ ghost use Rattle.texts.specs.Texts.{Showable, letter_at, LeadsBack, Behind, Trac
 
 use letters::LetterSet;
 use nodes::{Node, Steps};
-use search::Goal;
+use search::{Goal, Scratch};
 
 // Searches, and writes the text of the way to the goal at base: its length, or None where there is no goal.
 pub fn show(
     steps: &Steps,
     sets: &[LetterSet; 61],
-    scratch: &mut [u16],
+    scratch: &mut Scratch,
     evidence: &mut [u8],
     goal: Goal,
     start: usize,
     base: usize,
 ) -> Option<usize>
-    requires { (4096 ≤ length scratch.old) × (start ≤ 60) × (base + 1890 ≤ length evidence.old) × OnlyLetters sets.now × ((x y : ℕ) → Step steps.now x y → Showable sets.now y) }
+    requires { (start ≤ 60) × (base + 1890 ≤ length evidence.old) × OnlyLetters sets.now × ((x y : ℕ) → Step steps.now x y → Showable sets.now y) }
     ensures { Shown sets.now steps.now evidence.old evidence.new goal start base result }
 {
     let i = search::to_goal(steps, &mut *scratch, goal, start)?;
@@ -31,15 +31,15 @@ pub fn show(
 }
 
 // How many steps lead to the i-th node of the queue.
-fn steps_to(scratch: &[u16], i: usize) -> usize
-    requires { LeadsBack scratch.now (i + 1) }
-    ensures { Behind scratch.now i result × (result ≤ i) }
+fn steps_to(scratch: &Scratch, i: usize) -> usize
+    requires { LeadsBack scratch.now.numbers.now (i + 1) }
+    ensures { Behind scratch.now.numbers.now i result × (result ≤ i) }
 {
     let mut j = i;
     let mut n = 0;
     while 0 < j {
         n += 1;
-        j = search::before(scratch, j);
+        j = scratch.before(j);
     }
     n
 }
@@ -47,21 +47,21 @@ fn steps_to(scratch: &[u16], i: usize) -> usize
 // The letters of those n steps, written at base, the last one first.
 fn trace(
     sets: &[LetterSet; 61],
-    scratch: &[u16],
+    scratch: &Scratch,
     evidence: &mut [u8],
     i: usize,
     base: usize,
     n: usize,
 )
-    requires { OnlyLetters sets.now × LeadsBack scratch.now (i + 1) × Behind scratch.now i n × ((j : ℕ) → 0 < j → j ≤ i → Showable sets.now (get_or scratch.now j 0)) × (base + n ≤ length evidence.old) }
-    ensures { Traced sets.now scratch.now evidence.old evidence.new i base n }
+    requires { OnlyLetters sets.now × LeadsBack scratch.now.numbers.now (i + 1) × Behind scratch.now.numbers.now i n × ((j : ℕ) → 0 < j → j ≤ i → Showable sets.now (get_or scratch.now.numbers.now j 0)) × (base + n ≤ length evidence.old) }
+    ensures { Traced sets.now scratch.now.numbers.now evidence.old evidence.new i base n }
 {
     let mut at = i;
     let mut k = base + n;
     while 0 < at {
         k -= 1;
-        evidence[k] = letter(sets, scratch[at]);
-        at = search::before(scratch, at);
+        evidence[k] = letter(sets, scratch.numbers[at]);
+        at = scratch.before(at);
     }
 }
 

@@ -2,15 +2,15 @@
 // and steady; and the way to a goal is the text that shows the verdict.
 #![tactic(auto)]
 
-ghost use Rattle.std.specs.Prelude.{◌≡◌, ◌≤◌, ◌<◌, length};
+ghost use Rattle.std.specs.Prelude.{◌≤◌, length};
 ghost use Rattle.graph.specs.Built.{graph_of_built};
-ghost use Rattle.verdict.specs.Verdict.{first_pivot};
+ghost use Rattle.search.specs.Search.{IsFirstPivot};
 ghost use Rattle.shares.specs.Tables.{Tables};
 ghost use Rattle.vetting.specs.Answers.{Vettable, Reported, Judged};
 
 use graph::Built;
 use nodes::Steps;
-use search::Goal;
+use search::{Goal, Scratch};
 
 // A verdict, with the lengths of the texts at the beginning of the evidence that show it: of a steady pattern a text with two
 // readings; of a runaway one a way to its first pivot, a text with two loops there, and a way to an end.
@@ -39,34 +39,23 @@ pub fn vet(b: Built, more: &[u8; 3721], evidence: &mut [u8], scratch: &mut [u16]
         doubles: shares::double_rows(&b.follow, more, b.doubled, b.positions),
         shares: shares::share_rows(&b.letters, b.positions),
     };
-    let verdict = match search::first_pivot(&steps, &mut *scratch, b.positions) {
-        None => single_or_steady(&b, more, &steps, &mut *evidence, &mut *scratch),
-        Some(q) => runaway(&b, more, &steps, &mut *evidence, &mut *scratch, q),
+    let mut scratch = Scratch { numbers: scratch };
+    let verdict = match search::first_pivot(&steps, &mut scratch, b.positions) {
+        None => {
+            let goal = Goal {
+                mask: b.lasts,
+                parted: true,
+            };
+            match texts::show(&steps, &b.letters, &mut scratch, &mut *evidence, goal, 0, 0) {
+                None => Verdict::Single,
+                Some(n) => Verdict::Steady { text: n as u32 },
+            }
+        }
+        Some(q) => runaway(&b, more, &steps, &mut *evidence, &mut scratch, q),
     };
     Vetted {
         positions: b.positions as u8,
         verdict,
-    }
-}
-
-// Of a pattern without a pivot, whose links `more` counts: steady where two readings part and both come to an end, else single.
-fn single_or_steady(
-    b: &Built,
-    more: &[u8; 3721],
-    steps: &Steps,
-    evidence: &mut [u8],
-    scratch: &mut [u16],
-) -> Verdict
-    requires { Vettable b.now more.now × Tables (graph_of_built b.now more.now) steps.now × (first_pivot (graph_of_built b.now more.now) ≡ 0) × (4096 ≤ length evidence.old) × (4096 ≤ length scratch.old) }
-    ensures { Reported (graph_of_built b.now more.now) evidence.old evidence.new result }
-{
-    let goal = Goal {
-        mask: b.lasts,
-        parted: true,
-    };
-    match texts::show(steps, &b.letters, &mut *scratch, &mut *evidence, goal, 0, 0) {
-        None => Verdict::Single,
-        Some(n) => Verdict::Steady { text: n as u32 },
     }
 }
 
@@ -76,10 +65,10 @@ fn runaway(
     more: &[u8; 3721],
     steps: &Steps,
     evidence: &mut [u8],
-    scratch: &mut [u16],
+    scratch: &mut Scratch,
     q: usize,
 ) -> Verdict
-    requires { Vettable b.now more.now × Tables (graph_of_built b.now more.now) steps.now × (first_pivot (graph_of_built b.now more.now) ≡ q) × (0 < q) × (4096 ≤ length evidence.old) × (4096 ≤ length scratch.old) }
+    requires { let g = graph_of_built b.now more.now in Vettable b.now more.now × Tables g steps.now × IsFirstPivot g (Some q) × (4096 ≤ length evidence.old) }
     ensures { Reported (graph_of_built b.now more.now) evidence.old evidence.new result }
 {
     let sets = &b.letters;

@@ -8,30 +8,29 @@ use Rattle.search.proofs.first_pivot.Goals as goal
 
 pub loop-node-init : goal.loop-node-init
 loop-node-init c =
-    (refl, refl, search_first (c.begin-search.ensures c.args.steps.now) (start_no_goal c.only.result c.pivots.q (omega (arith, c.requires.1, c.pivots-test.true))))
+    (refl, search_first (c.begin-search.ensures c.args.steps.now) (start_no_goal c.only.result c.pivots.q (omega (arith, c.requires, c.pivots-test.true))))
 
 pub pivots-preserved : goal.pivots-preserved
 pivots-preserved c =
     let p = c.pivots.invariant in
     let l = c.loop-node.invariant in (
-      omega (arith, c.visit.auto.scratch, l.0, c.begin-search.auto.scratch, p.0),
-      l.1 ∙ p.1,
-      none_more (omega (arith, c.pivots.auto.q)) c.pivots-test.true c.only.ensures p.2 (search_over l.2 c.in_default.ensures) c.in_default.ensures.over,
+      l.0 ∙ p.0,
+      none_more (omega (arith, c.pivots.auto.q)) c.pivots-test.true c.only.ensures p.1 (search_over l.1 c.in_default.ensures) c.in_default.ensures.over,
     )
 
 pub returns : goal.returns
 returns c g tables e =
     let p = c.pivots.invariant in
-    subst (IsFirstPivot g) (sym p.1) (none_first c.pivots-test.false p.2 g tables e)
+    subst (IsFirstPivot g) (sym p.0) (none_first c.pivots-test.false p.1 g tables e)
 
 pub returns-then-is_met : goal.returns-then-is_met
 returns-then-is_met c =
     let l = c.loop-node.invariant in
-    pivot_first (omega (arith, c.pivots.auto.q)) c.pivots-test.true c.only.ensures c.pivots.invariant.2 (search_found l.2 c.in-Some.ensures (sym c.is_met.ensures ∙ c.if-is_met.true))
+    pivot_first (omega (arith, c.pivots.auto.q)) c.pivots-test.true c.only.ensures c.pivots.invariant.1 (search_found l.1 c.in-Some.ensures (sym c.is_met.ensures ∙ c.if-is_met.true))
 
 pub returns-in_default : goal.returns-in_default
 returns-in_default c g tables e =
     let p = c.pivots.invariant in
     let l = c.loop-node.invariant in
-    subst (IsFirstPivot g) (sym (l.1 ∙ p.1))
-    (none_first (omega arith) (none_more (omega (arith, c.pivots.auto.q)) c.pivots-test.true c.only.ensures p.2 (search_over l.2 c.in_default.ensures) c.in_default.ensures.over) g tables e)
+    subst (IsFirstPivot g) (sym (l.0 ∙ p.0))
+    (none_first (omega arith) (none_more (omega (arith, c.pivots.auto.q)) c.pivots-test.true c.only.ensures p.1 (search_over l.1 c.in_default.ensures) c.in_default.ensures.over) g tables e)

@@ -8,9 +8,9 @@ use Rattle.texts.proofs.steps_to.Goals as goal
 
 pub loop-j-preserved : goal.loop-j-preserved
 loop-j-preserved c =
-    let back : back_of c.args.scratch.now c.loop-j.j < c.loop-j.j = c.requires.lower c.loop-j.j c.loop-j-test.true (omega (arith, c.loop-j.invariant.low)) in
+    let back : back_of c.args.scratch.now.numbers.now c.loop-j.j < c.loop-j.j = c.requires.lower c.loop-j.j c.loop-j-test.true (omega (arith, c.loop-j.invariant.low)) in
     let l = c.loop-j in
-    subst (λ (k : ℕ). Counted c.args.scratch.now c.args.i k (l.n + 1)) (sym c.before-j.ensures) (count_next c.loop-j-test.true back l.invariant)
+    subst (λ (k : ℕ). Counted c.args.scratch.now.numbers.now c.args.i k (l.n + 1)) (sym c.before-j.ensures) (count_next c.loop-j-test.true back l.invariant)
 
 pub returns : goal.returns
 returns c =

@@ -13,7 +13,7 @@ loop-at-init c =
 pub loop-at-preserved : goal.loop-at-preserved
 loop-at-preserved c =
     let at = c.loop-at in
-    let back : back_of c.args.scratch.now at.at < at.at = c.requires.1.lower at.at c.loop-at-test.true (omega (arith, at.invariant.low)) in
+    let back : back_of c.args.scratch.now.numbers.now at.at < at.at = c.requires.1.lower at.at c.loop-at-test.true (omega (arith, at.invariant.low)) in
     write_back (sym c.before-at.ensures) (write_next at.invariant c.loop-at-test.true back c.letter.ensures)
 
 pub returns : goal.returns

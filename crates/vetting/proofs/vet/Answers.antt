@@ -1,8 +1,10 @@
--- The tables say what the graph says, so the first pivot found is the graph's. Assumes nothing.
+-- The tables say what the graph says, so the first pivot found is the graph's; where there is none, the search for two readings that
+-- part and both come to an end decides. Assumes nothing.
 use mathlib.Core.Path.{refl}
 use native.Mathlib.Omega.{arith}
 use Rattle.graph.specs.Built.{graph_of_built}
-use Rattle.vetting.proofs.Answering.{within, none_doubled, tables_of}
+use Rattle.vetting.proofs.Answering.{within, none_doubled, tables_of, honest, showable, single_answer, steady_answer}
+use Rattle.vetting.proofs.vet.Goals.{in-None+in-None-show, in-None+in-Some-show, in-Some}
 use Rattle.vetting.proofs.vet.Goals as goal
 
 pub double_rows-requires : goal.double_rows-requires
@@ -10,13 +12,26 @@ double_rows-requires c =
     let fit = c.requires.0 in
     (within fit, none_doubled fit, fit.bounded.few)
 
-pub single_or_steady-verdict-requires : goal.single_or_steady-verdict-requires
-single_or_steady-verdict-requires c =
-    let tables = tables_of c.requires.0 c.double_rows.result c.share_rows.result c.double_rows.ensures c.share_rows.ensures in
-    (c.requires.0, tables, c.in-None.ensures (graph_of_built c.args.b c.args.more.now) tables refl, c.requires.1, omega (arith, c.requires.2, c.first_pivot.auto.scratch))
+pub show-requires : goal.show-requires
+show-requires c =
+    let fit = c.requires.0 in
+    let tables = tables_of fit _ _ c.double_rows.ensures c.share_rows.ensures in
+    (omega arith, omega (arith, c.requires.1), fit.bounded.letters, showable fit tables.rows (honest fit tables))
 
 pub runaway-verdict-requires : goal.runaway-verdict-requires
 runaway-verdict-requires c =
-    let tables = tables_of c.requires.0 c.double_rows.result c.share_rows.result c.double_rows.ensures c.share_rows.ensures in
-    let first = c.in-Some.ensures (graph_of_built c.args.b c.args.more.now) tables refl in
-    (c.requires.0, tables, first.1, first.0, c.requires.1, omega (arith, c.requires.2, c.first_pivot.auto.scratch))
+    let tables = tables_of c.requires.0 _ _ c.double_rows.ensures c.share_rows.ensures in
+    (c.requires.0, tables, c.in-Some.ensures (graph_of_built c.args.b c.args.more.now) tables refl, c.requires.1)
+
+pub returns : goal.returns
+returns c =
+    let g = graph_of_built c.args.b c.args.more.now in
+    let tables = tables_of c.requires.0 _ _ c.double_rows.ensures c.share_rows.ensures in
+    record {
+      positions = refl;
+      reports = elim c.match-first_pivot.branch [
+        | in-None+in-None-show w ↦ rw (w.evidence-is, w.verdict-is) (single_answer c.requires.0 tables (w.in-None.ensures g tables refl) w.in-None-show.ensures)
+        | in-None+in-Some-show w ↦ rw (w.evidence-is, w.verdict-is) (steady_answer c.requires.0 tables (w.in-None.ensures g tables refl) w.in-Some-show.ensures)
+        | in-Some w ↦ rw (w.evidence-is, w.verdict-is) w.runaway-verdict.ensures
+      ];
+    }

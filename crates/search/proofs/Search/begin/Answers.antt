@@ -4,4 +4,4 @@ use Rattle.search.proofs.Visiting.{search_begin}
 use Rattle.search.proofs.Search.begin.Goals as goal
 
 pub returns : goal.returns
-returns c = search_begin c.args.scratch.now c.push.new.scratch c.args.start _ c.requires.0 c.requires.1 c.push.ensures c.only.ensures refl refl refl
+returns c = search_begin _ _ _ _ c.args.scratch.now.room c.requires c.push.ensures c.only.ensures refl refl refl

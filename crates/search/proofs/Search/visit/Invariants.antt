@@ -4,7 +4,7 @@ use Rattle.search.specs.Search.{SoundSearch}
 use Rattle.search.proofs.Search.visit.Given as goal
 
 abbrev pub invariant-loop-self : goal.invariant-loop-self
-invariant-loop-self l = (l.scratch ≡ l.initial.scratch) × (l.self.tail ≡ l.initial.self.tail) × SoundSearch l.steps l.scratch l.self
+invariant-loop-self l = (l.scratch.numbers.now ≡ l.initial.scratch.numbers.now) × (l.self.tail ≡ l.initial.self.tail) × SoundSearch l.steps l.scratch.numbers.now l.self
 
 abbrev pub decreases-loop-self : goal.decreases-loop-self
 decreases-loop-self l = l.self.tail - l.self.head
