@@ -4,7 +4,7 @@
 
 ghost use Rattle.std.specs.Prelude.{◌≡◌, true, ℕ, ◌<◌, ◌≤◌, ◌+◌, ◌^◌, length, get_or};
 ghost use Rattle.bits.specs.Bits.{has_bit};
-ghost use Rattle.letters.specs.LetterSet.{has_letter, set_at, OnlyLetters};
+ghost use Rattle.letters.specs.LetterSet.{has_letter, set_at};
 ghost use Rattle.columns.specs.Tables.{Columns, Entered};
 
 use bits::NumberSet;
@@ -25,7 +25,7 @@ pub fn states_before(follow: &[u64; 61], positions: usize) -> [u64; 61]
 // For each letter the positions that hold it, and for any other code none. A position with a wide set is entered for the letters that it
 // lacks, and in the end such positions are flipped in the entry of each letter.
 pub fn holders_of(sets: &[LetterSet; 61], positions: usize) -> [u64; 256]
-    requires { OnlyLetters sets.now × (positions ≤ 60) }
+    requires { positions ≤ 60 }
     ensures { Columns (λ i c. has_letter (set_at sets.now i) c) (positions + 1) result }
 {
     let mut table = [0u64; 256];

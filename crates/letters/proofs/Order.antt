@@ -15,8 +15,8 @@ use Rattle.bits.specs.Bits.{has_bit}
 use Rattle.bits.proofs.Laws.{has_minus, has_ones}
 use Rattle.alphabet.specs.Alphabet.{is_letter, some_letter, lowest_letter}
 use Rattle.alphabet.proofs.Alphabet.{lowest_letter_is, lowest_none, letter_below, letter_some}
-use Rattle.letters.specs.LetterSet.{has_slot, code_at, has_letter, LeastLetter}
-use Rattle.letters.specs.declared.TheConstants.{SMALL, CAPITAL, DIGITS}
+use Rattle.letters.specs.Slots.{has_slot, code_at}
+use Rattle.letters.specs.LetterSet.{has_letter, LeastLetter}
 use native.Mathlib.Numerals.{add-one}
 use lib.ListN.{get_or, drop}
 use lib.Seq.{drop-cons}
@@ -80,9 +80,9 @@ pub first_least : (f : ℕ → Bool) (c : ℕ) → is_letter c ≡ true → f c 
 unfolding first_letter
 first_least f c i k = first_place order f (letter_some f c i k) c i k
 
--- ---- a range asked of a set s that holds letters only: g is the set of the range, and both has the letters of s in it
+-- ---- a range asked of a set s: g is the set of the range, and both has the letters of s in it
 
-module _ (s g both : LetterSet) (letters : (c : ℕ) → has_letter s c ≡ true → is_letter c ≡ true) (meet : (c : ℕ) → has_letter both c ≡ (has_letter s c && has_letter g c))
+module _ (s g both : LetterSet) (meet : (c : ℕ) → has_letter both c ≡ (has_letter s c && has_letter g c))
     (r : Range) (rs : List Range) (range : (c : ℕ) → has_letter g c ≡ in_range r c) where
   shared : (λ (c : ℕ). has_letter s c && has_letter g c) ≡ among r (has_letter s)
   shared i c = has_letter s c && range c i
@@ -90,14 +90,14 @@ module _ (s g both : LetterSet) (letters : (c : ℕ) → has_letter s c ≡ true
   -- there are some, and the lowest of them is the first letter
   pub found : (c : ℕ) → LeastLetter both c → c ≡ first_by (r ∷ rs) (has_letter s)
   found c l =
-      let some = none_shared s g both letters meet false (λ e. absurd (false≢true e)) (λ e. record { code = c; here = l.here }) ∙ ap some_letter shared in
-      lowest_shared s g both letters meet c l ∙ ap lowest_letter shared
+      let some = none_shared s g both meet false (λ e. absurd (false≢true e)) (λ e. record { code = c; here = l.here }) ∙ ap some_letter shared in
+      lowest_shared s g both meet c l ∙ ap lowest_letter shared
       ∙ sym (if_yes (lowest_letter (among r (has_letter s))) (first_by rs (has_letter s)) (some_letter (among r (has_letter s))) (sym some))
 
   -- there are none, and the ranges left decide
   pub passed : ((c : ℕ) → has_letter both c ≡ false) → first_by rs (has_letter s) ≡ first_by (r ∷ rs) (has_letter s)
   passed empty =
-      let none = none_shared s g both letters meet true (λ e. empty) (λ e. absurd (true≢false e)) ∙ ap some_letter shared in
+      let none = none_shared s g both meet true (λ e. empty) (λ e. absurd (true≢false e)) ∙ ap some_letter shared in
       sym (if_no (lowest_letter (among r (has_letter s))) (first_by rs (has_letter s)) (some_letter (among r (has_letter s))) (sym none))
 
 -- ---- the set of a range of codes below 128
@@ -145,9 +145,9 @@ module _ (r : Range) where
         (λ _ is. and_of (ltb i (end base)) (leb (begin base) i) (lt-ltb i (end base) (omega arith)) (le-leb (begin base) i (omega arith)))
         (λ far is. absurd (omega arith)))
 
-    pub range_set : (c : ℕ) → has_letter record { low = word 0; middle = word 64; high = word 128 } c ≡ in_range r c
-    range_set c =
-        by_words record { low = word 0; middle = word 64; high = word 128 } (in_range r) (at 0) (at 64) (at 128) c
+    pub range_set : (s : LetterSet) → s.low ≡ word 0 → s.middle ≡ word 64 → s.high ≡ word 128 → (c : ℕ) → has_letter s c ≡ in_range r c
+    range_set s low middle high c =
+        by_words s (in_range r) (λ i h. ap (λ x. has_bit x i) low ∙ at 0 i h) (λ i h. ap (λ x. has_bit x i) middle ∙ at 64 i h) (λ i h. ap (λ x. has_bit x i) high ∙ at 128 i h) c
         ∙ same_test (has_slot c && in_range r c) (in_range r c) (λ e. (and_parts (has_slot c) (in_range r c) e).1)
         (λ e.
         let low = (ends c e).0 in
@@ -156,14 +156,16 @@ module _ (r : Range) where
 
 -- ---- the ranges as sets, one by one
 
-abbrev pub range_sets : List LetterSet
-range_sets = SMALL ∷ (CAPITAL ∷ (DIGITS ∷ []))
+-- the words of s are those of the range
+abbrev pub IsRange : Range → LetterSet → Type 0
+IsRange r s = (s.low ≡ word r 0) × (s.middle ≡ word r 64) × (s.high ≡ word r 128)
 
-pub range_at : (i : ℕ) (none : LetterSet) → i < 3 → (c : ℕ) → has_letter (get_or range_sets i none) c ≡ in_range (get_or order i small) c
-range_at zero none h = range_set small (omega arith) (omega arith)
-range_at (suc zero) none h = range_set capital (omega arith) (omega arith)
-range_at (suc (suc zero)) none h = range_set digit (omega arith) (omega arith)
-range_at (suc (suc (suc i))) none h = absurd (omega arith)
+pub range_at : (a b d : LetterSet) → IsRange small a → IsRange capital b → IsRange digit d → (i : ℕ) (none : LetterSet) → i < 3
+    → (c : ℕ) → has_letter (get_or (a ∷ (b ∷ (d ∷ []))) i none) c ≡ in_range (get_or order i small) c
+range_at a b d x y z zero none h = range_set small (omega arith) (omega arith) _ x.0 x.1 x.2
+range_at a b d x y z (suc zero) none h = range_set capital (omega arith) (omega arith) _ y.0 y.1 y.2
+range_at a b d x y z (suc (suc zero)) none h = range_set digit (omega arith) (omega arith) _ z.0 z.1 z.2
+range_at a b d x y z (suc (suc (suc i))) none h = absurd (omega arith)
 
 -- a range and those after it
 pub range_and_rest : (i : ℕ) → i < 3 → drop i order ≡ get_or order i small ∷ drop (i + 1) order

@@ -3,22 +3,26 @@
 use mathlib.Core.Path.{◌≡◌, refl, sym, ap, ap₂, ◌∙◌, subst}
 use mathlib.Core.Logic.{⊎_elim}
 use mathlib.Core.Bool.{Bool, true, false, not, ◌&&◌, and-true, and-false, true≢false}
+use mathlib.Core.List.{List}
 use Prim.Native.Nat.{ℕ, ◌+◌, ◌-◌, ◌^◌, ◌≤◌, ◌<◌}
 use native.Mathlib.Omega.{arith}
 use borrow.Author.Tests.{lt-ltb, le-ltb, ne_eqb}
-use lib.Dec.{eqb}
+use lib.Dec.{eqb, ltb}
+use lib.Bits.{bit_and}
 use lib.Count.{count_trailing_zeros}
-use lib.ListN.{replicate}
+use lib.ListN.{length, get_or, replicate}
+use Rattle.std.proofs.lemmas.List.{get_or_read}
 use Rattle.basics.specs.Folds.{Less, LeastOf}
-use Rattle.basics.proofs.Tests.{le_or_lt, neither_less, and_parts, and_of, same_test, by_test, equal_added}
+use Rattle.basics.proofs.Tests.{le_or_lt, neither_less, and_parts, and_of, by_test, by_equal, equal_added}
 use Rattle.basics.proofs.Lists.{alike}
 use Rattle.bits.specs.Bits.{has_bit, Least}
-use Rattle.bits.proofs.Laws.{has_none, has_high, least_trailing}
+use Rattle.bits.proofs.Laws.{has_none, has_pow, has_and, has_not, has_high, least_trailing}
 use Rattle.alphabet.specs.Alphabet.{is_letter, some_letter, lowest_letter}
-use Rattle.letters.specs.LetterSet.{has_slot, slot_of, code_at, in_slot, has_letter, Some, LeastLetter, set_at}
+use Rattle.letters.specs.Slots.{has_slot, slot_of, code_at}
+use Rattle.letters.specs.LetterSet.{in_slot, has_letter, Some, LeastLetter, no_letters, set_at}
 use Rattle.letters.specs.declared.LetterSet.{LetterSet}
 use Rattle.alphabet.proofs.Alphabet.{lowest_letter_is, lowest_none, letter_some}
-use Rattle.letters.proofs.Slots.{slot_code, by_slots, code_less, code_equal}
+use Rattle.letters.proofs.Slots.{slot_code, by_slots, code_less, code_equal, letter_at, has_letter_slot}
 
 -- ---- the three words
 
@@ -105,6 +109,58 @@ pointwise op r s t z a b d =
         (λ i h. at_middle r i h ∙ b i ∙ sym (ap₂ op (at_middle s i h) (at_middle t i h)))
         (λ i. at_high r i ∙ d i ∙ sym (ap₂ op (at_high s i) (at_high t i)))
 
+-- a set's letters word by word
+pub in_low : (s : LetterSet) (i : ℕ) → i < 64 → has_letter s (code_at (0 + i)) ≡ has_bit s.low i
+in_low s i h = code_in s (0 + i) (omega arith) ∙ ap (in_slot s) (omega arith) ∙ at_low s i h
+
+pub in_middle : (s : LetterSet) (i : ℕ) → i < 64 → has_letter s (code_at (64 + i)) ≡ has_bit s.middle i
+in_middle s i h = code_in s (64 + i) (omega arith) ∙ at_middle s i h
+
+pub in_high : (s : LetterSet) (i : ℕ) → i < 64 → has_letter s (code_at (128 + i)) ≡ has_bit s.high i
+in_high s i h = code_in s (128 + i) (omega arith) ∙ at_high s i
+
+-- 127 is in no set, so a set has the letters that pass f where its other slots are those of codes that do
+pub by_letters : (r : LetterSet) (f : ℕ → Bool) → ((i : ℕ) → i < 64 → has_bit r.low i ≡ f (code_at (0 + i)))
+    → ((i : ℕ) → i < 64 → (31 ≡ i → ⊥) → has_bit r.middle i ≡ f (code_at (64 + i)))
+    → ((i : ℕ) → i < 64 → has_bit r.high i ≡ f (code_at (128 + i))) → (c : ℕ) → has_letter r c ≡ (is_letter c && f c)
+by_letters r f a b d c =
+    by_words r (λ k. is_letter k && f k) (λ i h. a i h ∙ letter (0 + i) (omega arith) (λ e. omega arith))
+    (λ i h.
+    by_equal 31 i
+    (λ e. subst (λ j. has_bit r.middle j ≡ (is_letter (code_at (64 + j)) && f (code_at (64 + j)))) e (r.letters ∙ sym (ap (λ t. t && f (code_at 95)) (letter_at 95 (omega arith)))))
+    (λ e. b i h e ∙ letter (64 + i) (omega arith) (λ z. e (omega arith))))
+    (λ i h. d i h ∙ letter (128 + i) (omega arith) (λ e. omega arith)) c
+    ∙ has_letter_slot c (f c)
+  where
+    letter : (i : ℕ) → i < 192 → (95 ≡ i → ⊥) → f (code_at i) ≡ (is_letter (code_at i) && f (code_at i))
+    letter i l e = sym (ap (λ t. t && f (code_at i)) (letter_at i l ∙ ap not (ne_eqb 95 i e)))
+
+-- a set has letters only
+pub only_letters : (s : LetterSet) (c : ℕ) → has_letter s c ≡ (is_letter c && has_letter s c)
+only_letters s = by_letters s (has_letter s) (λ i h. sym (in_low s i h)) (λ i h e. sym (in_middle s i h)) (λ i h. sym (in_high s i h))
+
+pub is_letter_in : (s : LetterSet) (c : ℕ) → has_letter s c ≡ true → is_letter c ≡ true
+is_letter_in s c h = (and_parts (is_letter c) (has_letter s c) (sym (only_letters s c) ∙ h)).0
+
+-- ---- the middle word without 127
+
+full_middle : (i : ℕ) → has_bit (2 ^ 64 - 1 - 2 ^ 31) i ≡ (ltb i 64 && not (eqb 31 i))
+full_middle i = has_not 64 (2 ^ 31) i (omega arith) ∙ ap (λ t. ltb i 64 && not t) (has_pow 31 i)
+
+pub middle_lacks : has_bit (2 ^ 64 - 1 - 2 ^ 31) 31 ≡ false
+middle_lacks = full_middle 31
+
+pub middle_has : (i : ℕ) → i < 64 → (31 ≡ i → ⊥) → has_bit (2 ^ 64 - 1 - 2 ^ 31) i ≡ true
+middle_has i h e = full_middle i ∙ ap₂ (λ t u. t && not u) (lt-ltb i 64 h) (ne_eqb 31 i e)
+
+pub cut_lacks : (m : ℕ) → has_bit (bit_and m (2 ^ 64 - 1 - 2 ^ 31)) 31 ≡ false
+cut_lacks m = has_and m (2 ^ 64 - 1 - 2 ^ 31) 31 ∙ ap (λ t. has_bit m 31 && t) middle_lacks ∙ and-false (has_bit m 31)
+
+pub cut_has : (m i : ℕ) → i < 64 → (31 ≡ i → ⊥) → has_bit (bit_and m (2 ^ 64 - 1 - 2 ^ 31)) i ≡ has_bit m i
+cut_has m i h e = has_and m (2 ^ 64 - 1 - 2 ^ 31) i ∙ ap (λ t. has_bit m i && t) (middle_has i h e) ∙ and-true (has_bit m i)
+
+-- ---- the empty set
+
 -- three empty words are the empty set
 pub zero_none : (s : LetterSet) → s.low ≡ 0 → s.middle ≡ 0 → s.high ≡ 0 → (c : ℕ) → has_letter s c ≡ false
 zero_none s a b d c =
@@ -183,11 +239,11 @@ module _ (s : LetterSet) (base m : ℕ) (w : Word s base m) where
       (λ i p.
       code_in r i p ∙ slots i ∙ sym (ap₂ (λ (a b : Bool). a && not b) (code_in s i p) (code_equal (base + u) i (omega (arith, w.room, k.0)) p))))
 
--- ---- a set that holds the letters that pass f, against what the specification says of f
+-- what a word lacks its rest lacks too
+pub rest_lacks : (m n : ℕ) → m < 2 ^ 64 → 0 < m → ((u : ℕ) → Least m u → Less (has_bit m) u (has_bit n)) → (i : ℕ) → has_bit m i ≡ false → has_bit n i ≡ false
+rest_lacks m n f p e i h = let u = count_trailing_zeros 64 m in e u (least_trailing 64 m p f).1 i ∙ ap (λ b. b && not (eqb u i)) h
 
--- a test that only letters pass
-pub only_letters : (f : ℕ → Bool) → ((c : ℕ) → f c ≡ true → is_letter c ≡ true) → (c : ℕ) → f c ≡ (is_letter c && f c)
-only_letters f letters c = same_test (f c) (is_letter c && f c) (λ h. and_of (is_letter c) (f c) (letters c h) h) (λ h. (and_parts (is_letter c) (f c) h).1)
+-- ---- a set that holds the letters that pass f, against what the specification says of f
 
 pub lowest_same : (s : LetterSet) (f : ℕ → Bool) → ((c : ℕ) → has_letter s c ≡ (is_letter c && f c)) → (t : ℕ) → LeastLetter s t → t ≡ lowest_letter f
 lowest_same s f same t l =
@@ -212,7 +268,11 @@ none_same s f same false empty some =
     let p = and_parts (is_letter e.code) (f e.code) (sym (same e.code) ∙ e.here) in
     ap not (sym (letter_some f e.code p.0 p.1))
 
+-- the set read at i is that of entry i
+pub read_set : (sets : List LetterSet) (i : ℕ) (s : LetterSet) → i < length sets → s ≡ get_or sets i s → s ≡ set_at sets i
+read_set sets i s l is = get_or_read sets i s l is no_letters
+
 -- an array of empty sets has no letter
 pub all_empty : (n : ℕ) (none : LetterSet) → ((c : ℕ) → has_letter none c ≡ false) → (i c : ℕ) → has_letter (set_at (replicate n none) i) c ≡ false
 all_empty n none empty i c =
-    alike (λ (s : LetterSet). has_letter s c ≡ false) n none record { low = 0; middle = 0; high = 0 } (empty c) (zero_none record { low = 0; middle = 0; high = 0 } refl refl refl c) i
+    alike (λ (s : LetterSet). has_letter s c ≡ false) n none no_letters (empty c) (zero_none no_letters refl refl refl c) i

@@ -2,19 +2,18 @@
 use mathlib.Core.Path.{◌≡◌, refl, ap, ◌∙◌}
 use mathlib.Core.Bool.{Bool, true, false, ◌&&◌, not}
 use Prim.Native.Nat.{ℕ}
-use Rattle.basics.proofs.Tests.{and_parts}
 use Rattle.alphabet.specs.Alphabet.{is_letter, some_letter, lowest_letter}
 use Rattle.letters.specs.LetterSet.{has_letter, Some, LeastLetter}
 use Rattle.letters.specs.declared.LetterSet.{LetterSet}
 use Rattle.alphabet.proofs.Alphabet.{lowest_letter_is}
 use Rattle.letters.proofs.Sets.{only_letters, lowest_same, none_same}
 
-module _ (s t r : LetterSet) (letters : (c : ℕ) → has_letter s c ≡ true → is_letter c ≡ true) (both : (c : ℕ) → has_letter r c ≡ (has_letter s c && has_letter t c)) where
+module _ (s t r : LetterSet) (both : (c : ℕ) → has_letter r c ≡ (has_letter s c && has_letter t c)) where
   abbrev shared : ℕ → Bool
   shared c = has_letter s c && has_letter t c
 
   same : (c : ℕ) → has_letter r c ≡ (is_letter c && shared c)
-  same c = both c ∙ only_letters shared (λ d h. letters d (and_parts (has_letter s d) (has_letter t d) h).0) c
+  same c = only_letters r c ∙ ap (λ (x : Bool). is_letter c && x) (both c)
 
   pub some_shared : some_letter shared ≡ true → Some r
   some_shared h = record { code = lowest_letter shared; here = both (lowest_letter shared) ∙ (lowest_letter_is shared h).1 }

@@ -1,3 +1,4 @@
--- Sets of letters, and the order in which letters are shown.
+-- Sets of letters, their slots, and the order in which letters are shown.
+pub mod Slots
 pub mod LetterSet
 pub mod Order

@@ -4,24 +4,28 @@
 
 ghost use Rattle.std.specs.Prelude.{◌≡◌, true, false, not, ◌&&◌, ◌||◌, ℕ, ◌<◌};
 ghost use Rattle.basics.specs.Folds.{Less};
+ghost use Rattle.bits.specs.Bits.{has_bit};
 ghost use Rattle.alphabet.specs.Alphabet.{is_letter};
-ghost use Rattle.letters.specs.LetterSet.{in_slot, has_slot, slot_of, code_at, has_letter, Some, LeastLetter, is_wide, weight};
-ghost use Rattle.letters.specs.Order.{in_range, small, capital, digit, first_letter};
+ghost use Rattle.letters.specs.Slots.{has_slot, slot_of, code_at};
+ghost use Rattle.letters.specs.Order.{first_letter};
 
 use bits::NumberSet;
 
 // A set has 192 slots, a bit each: 0 to 63 are those of `low`, then come those of `middle` and of `high`. The codes 32 to 127 have the
-// slots 0 to 95, and 160 to 255 have 96 to 191. All of these are letters but 127, slot 95: the functions that make a set
-// leave it out. Besides this crate only `ranges` and `set_table` use the three fields.
+// slots 0 to 95, and 160 to 255 have 96 to 191. All of these are letters but 127, slot 95, bit 31 of `middle`, which is in no set.
+// Besides this crate only `ranges` uses the three fields.
 #[derive(Clone, Copy)]
 pub struct LetterSet {
     pub low: u64,
     pub middle: u64,
     pub high: u64,
+    ghost letters: { has_bit middle 31 ≡ false },
 }
 
-// All slots of a mask.
+// All slots of a mask, and all of `middle` but that of 127.
 const FULL: u64 = u64::MAX;
+
+pub const FULL_MIDDLE: u64 = 0xffff_ffff_7fff_ffff;
 
 // The lowest code that has a slot, and the lowest of those past 127.
 const FIRST: u8 = 32;
@@ -50,6 +54,8 @@ const DIGITS: LetterSet = LetterSet {
 };
 
 impl LetterSet {
+    ghost use Rattle.letters.specs.LetterSet.{in_slot, has_letter, Some, LeastLetter, is_wide, weight};
+
     // The empty set.
     pub fn empty() -> LetterSet
         ensures { (c : ℕ) → has_letter result c ≡ false }
@@ -110,13 +116,13 @@ impl LetterSet {
         }
     }
 
-    // All letters: every slot but that of 127, bit 31 of `middle`.
+    // All letters.
     pub fn all() -> LetterSet
         ensures { (c : ℕ) → has_letter result c ≡ is_letter c }
     {
         LetterSet {
             low: FULL,
-            middle: 0xffff_ffff_7fff_ffff,
+            middle: FULL_MIDDLE,
             high: FULL,
         }
     }
@@ -125,12 +131,11 @@ impl LetterSet {
     pub fn complement(self) -> LetterSet
         ensures { (c : ℕ) → has_letter result c ≡ (is_letter c && not (has_letter self c)) }
     {
-        let others = LetterSet {
+        LetterSet {
             low: !self.low,
-            middle: !self.middle,
+            middle: !self.middle & FULL_MIDDLE,
             high: !self.high,
-        };
-        LetterSet::all().intersection(others)
+        }
     }
 
     // Has the set no letter.
@@ -167,28 +172,23 @@ impl LetterSet {
         requires { Some self }
         ensures { (weight result < weight self) × ((t : ℕ) → LeastLetter self t → Less (has_letter self) t (has_letter result)) }
     {
+        let mut others = self;
         if self.low != 0 {
-            LetterSet {
-                low: bits::rest(self.low),
-                ..self
-            }
-        } else if self.middle != 0 {
-            LetterSet {
-                middle: bits::rest(self.middle),
-                ..self
-            }
-        } else {
-            LetterSet {
-                high: bits::rest(self.high),
-                ..self
-            }
+            others.low = bits::rest(self.low);
+            return others;
         }
+        if self.middle != 0 {
+            others.middle = bits::rest(self.middle);
+            return others;
+        }
+        others.high = bits::rest(self.high);
+        others
     }
 
-    // The letter shown of a set that is not empty and holds letters only: the first in the order a to z, A to Z, 0 to 9, then the
+    // The letter shown of a set that is not empty: the first in the order a to z, A to Z, 0 to 9, then the
     // others by code. Where the set has nothing of the three ranges, its lowest letter is one of the others.
     pub fn first_in_order(self) -> u8
-        requires { Some self × ((c : ℕ) → has_letter self c ≡ true → is_letter c ≡ true) }
+        requires { Some self }
         ensures { result ≡ first_letter (has_letter self) }
     {
         for range in [SMALL, CAPITAL, DIGITS] {
@@ -202,6 +202,8 @@ impl LetterSet {
 }
 
 impl NumberSet for LetterSet {
+    ghost use Rattle.letters.specs.LetterSet.{has_letter, weight};
+
     ghost has = { has_letter };
 
     ghost weight = { weight };

@@ -4,7 +4,8 @@
 ghost use Rattle.std.specs.Prelude.{◌≡◌, ◌&&◌, ℕ, ◌<◌, ◌≤◌, ◌+◌, eqb, ltb, leb};
 ghost use Rattle.alphabet.specs.Alphabet.{is_letter};
 ghost use Rattle.bits.specs.Bits.{has_bit};
-ghost use Rattle.letters.specs.LetterSet.{code_at, has_letter};
+ghost use Rattle.letters.specs.Slots.{code_at};
+ghost use Rattle.letters.specs.LetterSet.{has_letter};
 
 use letters::LetterSet;
 
@@ -17,12 +18,11 @@ pub fn range(a: u8, b: u8) -> LetterSet
 {
     let from = slots_below(a as usize);
     let to = slots_below(b as usize + 1);
-    let codes = LetterSet {
+    LetterSet {
         low: word(from, to, 0),
-        middle: word(from, to, 64),
+        middle: word(from, to, 64) & letters::FULL_MIDDLE,
         high: word(from, to, 128),
-    };
-    LetterSet::all().intersection(codes)
+    }
 }
 
 // The letter alone, and the empty set for a code that is no letter.

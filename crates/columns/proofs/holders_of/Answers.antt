@@ -4,8 +4,10 @@ use Rattle.std.proofs.lemmas.List.{get_or-take, length-take-le}
 use Rattle.bits.specs.Bits.{has_bit}
 use Rattle.bits.proofs.Laws.{has_none}
 use Rattle.alphabet.specs.Alphabet.{is_letter}
-use Rattle.letters.specs.LetterSet.{has_letter, set_at}
+use Rattle.letters.specs.LetterSet.{has_letter, no_letters, set_at}
 use Rattle.letters.specs.declared.LetterSet.{LetterSet}
+use Rattle.alphabet.proofs.Alphabet.{letter_below}
+use Rattle.letters.proofs.Sets.{is_letter_in, read_set}
 use Rattle.columns.specs.Tables.{Columns}
 use Rattle.columns.proofs.Columns.{columns_start}
 use Rattle.columns.proofs.Wide.{is_entered, Chosen, chosen_wide, chosen_own, wide_on, rows_on, all_flipped, none_flipped}
@@ -15,6 +17,13 @@ use Rattle.columns.proofs.holders_of.Goals.{then-is_wide, else-is_wide}
 pub loop-i-init : goal.loop-i-init
 loop-i-init c = (refl, λ j h. has_none j, columns_start (is_entered c.args.sets.now 0) 256)
 
+pub enter-requires : goal.enter-requires
+enter-requires c =
+    let at = c.loop-i in (
+      λ x h. omega (arith, at.invariant.0, letter_below x (is_letter_in c.if-is_wide.entered x h)),
+      omega (arith, at.auto, length-take-le (c.args.positions + 1) c.args.sets.now),
+    )
+
 pub loop-i-preserved : goal.loop-i-preserved
 loop-i-preserved c =
     let sets = c.args.sets.now in
@@ -22,7 +31,7 @@ loop-i-preserved c =
     let at = c.loop-i in
     let e = c.enter in
     let l : at.i < n = omega (arith, length-take-le n sets) in
-    let row : set_at (take n sets) at.i ≡ set_at sets at.i = get_or-take n sets at.i _ l in
+    let row = read_set (take n sets) at.i c.set-item.result (omega arith) c.set-item.is ∙ get_or-take n sets at.i no_letters l in
     let now = c.if-is_wide in
     let w : Chosen sets at.i at.wide now.entered now.wide =
     elim now.branch [
@@ -44,7 +53,7 @@ returns-then-wide-ne0 c =
     let flip = c.flip_letters in
     let z : at.i ≡ c.args.positions + 1 = omega (arith, length-take-le (c.args.positions + 1) sets) in
     subst (λ (n : ℕ). Columns (λ j b. has_letter (set_at sets j) b) n flip.new.table) z
-    (all_flipped sets at.i at.wide at.table at.invariant.2 c.requires.0 at.invariant.1 flip.new.table flip.ensures)
+    (all_flipped sets at.i at.wide at.table at.invariant.2 at.invariant.1 flip.new.table flip.ensures)
 
 pub returns-else-wide-ne0 : goal.returns-else-wide-ne0
 returns-else-wide-ne0 c =

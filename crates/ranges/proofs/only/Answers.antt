@@ -1,17 +1,16 @@
 -- A letter's slot is the only one in the three words. Assumes nothing.
 use mathlib.Core.Path.{◌≡◌, sym, ap, ◌∙◌}
-use mathlib.Core.Bool.{Bool, true, ◌&&◌}
+use mathlib.Core.Bool.{Bool, true, false, ◌&&◌, true≢false}
 use Prim.Native.Nat.{ℕ, ◌+◌, ◌<◌}
 use native.Mathlib.Omega.{arith}
 use lib.Dec.{eqb, leb}
-use borrow.Author.Tests.{leb-true, eqb-true, eq-eqb, le-leb}
+use borrow.Author.Tests.{leb-true, eqb-true, eq-eqb, ne_eqb, le-leb}
 use Rattle.basics.proofs.Tests.{and_parts, and_of, same_test}
 use Rattle.bits.specs.Bits.{has_bit}
 use Rattle.alphabet.specs.Alphabet.{is_letter}
-use Rattle.letters.specs.LetterSet.{code_at, slot_of, has_slot}
-use Rattle.letters.specs.declared.LetterSet.{LetterSet}
-use Rattle.letters.proofs.Slots.{slot_small, code_slot, code_equal, letter_slot}
-use Rattle.letters.proofs.Sets.{by_words}
+use Rattle.letters.specs.Slots.{code_at, slot_of, has_slot}
+use Rattle.letters.proofs.Slots.{slot_small, code_slot, code_equal, letter_slot, letter_at}
+use Rattle.letters.proofs.Sets.{by_letters}
 use Rattle.ranges.proofs.only.Goals as goal
 
 -- the range from a code to itself is that code
@@ -33,25 +32,24 @@ in_word code slot base w i h z l e =
     e ∙ ap (λ (x : ℕ). eqb x (base + i)) z ∙ sym (code_equal (slot_of code) (base + i) (slot_small code h) l) ∙ ap (λ (x : ℕ). eqb x (code_at (base + i))) (code_slot code h)
 
 pub slot_of-slot-requires : goal.slot_of-slot-requires
-slot_of-slot-requires c =
-    let letter : is_letter c.args.code ≡ true = let l = c.is_letter in sym l.ensures ∙ c.if-not-is_letter.false in letter_slot c.args.code (letter)
+slot_of-slot-requires c = letter_slot c.args.code (let l = c.is_letter in sym l.ensures ∙ c.if-not-is_letter.false)
+
+pub invariant_of-result : goal.invariant_of-result
+invariant_of-result c =
+    let code = c.args.code in
+    let letter = let l = c.is_letter in sym l.ensures ∙ c.if-not-is_letter.false in
+    let slot = c.slot_of-slot in
+    let is : slot.result ≡ 95 → is_letter code ≡ false
+    = λ e. ap is_letter (sym (code_slot code (letter_slot code letter)) ∙ ap code_at (sym slot.ensures ∙ e)) ∙ letter_at 95 (omega arith) in
+    record { letters = c.bit-2.ensures 31 (omega arith) ∙ ne_eqb slot.result 95 (λ e. true≢false (sym letter ∙ is e)) }
 
 pub returns : goal.returns
 returns c k =
-    let letter : is_letter c.args.code ≡ true = let l = c.is_letter in sym l.ensures ∙ c.if-not-is_letter.false in
     let code = c.args.code in
-    let l = letter in
-    let h = letter_slot code l in
+    let h = letter_slot code (let l = c.is_letter in sym l.ensures ∙ c.if-not-is_letter.false) in
     let slot = c.slot_of-slot in
-    let low = c.bit in
-    let middle = c.bit-2 in
-    let high = c.bit-3 in
-    let r : LetterSet = record { low = low.result; middle = middle.result; high = high.result } in
-    by_words r (eqb code)
-    (λ i m. in_word code slot.result 0 low.result i h slot.ensures (omega arith) (low.ensures i m))
-    (λ i m. in_word code slot.result 64 middle.result i h slot.ensures (omega arith) (middle.ensures i m))
-    (λ i m. in_word code slot.result 128 high.result i h slot.ensures (omega arith) (high.ensures i m)) k
-    ∙ same_test (has_slot k && eqb code k) (is_letter k && eqb code k)
-    (λ t. let e = (and_parts (has_slot k) (eqb code k) t).1 in and_of (is_letter k) (eqb code k) (ap is_letter (sym (eqb-true code k e)) ∙ l) e)
-    (λ t. let p = and_parts (is_letter k) (eqb code k) t in and_of (has_slot k) (eqb code k) (letter_slot k p.0) p.1)
-    ∙ ap (λ (t : Bool). is_letter k && t) (sym (alone code k))
+    by_letters _ (eqb code)
+    (λ i m. in_word code slot.result 0 c.bit.result i h slot.ensures (omega arith) (c.bit.ensures i m))
+    (λ i m e. in_word code slot.result 64 c.bit-2.result i h slot.ensures (omega arith) (c.bit-2.ensures i m))
+    (λ i m. in_word code slot.result 128 c.bit-3.result i h slot.ensures (omega arith) (c.bit-3.ensures i m)) k
+    ∙ sym (ap (λ (t : Bool). is_letter k && t) (alone code k))

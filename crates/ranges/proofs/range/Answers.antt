@@ -8,10 +8,8 @@ use lib.Dec.{ltb, leb}
 use borrow.Author.Tests.{lt-ltb}
 use Rattle.basics.proofs.Tests.{not_less, below_next}
 use Rattle.bits.specs.Bits.{has_bit}
-use Rattle.letters.specs.LetterSet.{code_at, has_slot, has_letter}
-use Rattle.letters.specs.declared.LetterSet.{LetterSet}
-use Rattle.letters.proofs.Slots.{letter_has}
-use Rattle.letters.proofs.Sets.{by_words}
+use Rattle.letters.specs.Slots.{code_at}
+use Rattle.letters.proofs.Sets.{by_letters, cut_lacks, cut_has}
 use Rattle.ranges.proofs.range.Goals as goal
 
 module _ (a b from to : ℕ) (first : (i : ℕ) → i < 192 → ltb i from ≡ ltb (code_at i) a) (last : (i : ℕ) → i < 192 → ltb i to ≡ ltb (code_at i) (b + 1)) where
@@ -22,20 +20,14 @@ module _ (a b from to : ℕ) (first : (i : ℕ) → i < 192 → ltb i from ≡ l
       word i ∙ ap (λ (t : Bool). t && (leb from (base + i) && ltb (base + i) to)) (lt-ltb i 64 h)
       ∙ ap₂ ◌&&◌ (sym (not_less (base + i) from) ∙ ap not (first (base + i) l) ∙ not_less k a) (last (base + i) l ∙ below_next k (b + 1) b refl)
 
+pub invariant_of-result : goal.invariant_of-result
+invariant_of-result c = record { letters = cut_lacks _ }
+
 pub returns : goal.returns
-returns c k =
+returns c =
     let a = c.args.a in
     let b = c.args.b in
-    let from = c.slots_below-from in
-    let to = c.slots_below-to in
-    let low = c.word in
-    let middle = c.word-2 in
-    let high = c.word-3 in
-    let codes : LetterSet = record { low = low.result; middle = middle.result; high = high.result } in
-    let fits = inside a b from.result to.result from.ensures to.ensures in
-    let held : has_letter codes k ≡ (has_slot k && (leb a k && leb k b))
-    = by_words codes (λ d. leb a d && leb d b)
-    (λ i h. fits 0 low.result low.ensures i h (omega arith))
-    (λ i h. fits 64 middle.result middle.ensures i h (omega arith))
-    (λ i h. fits 128 high.result high.ensures i h (omega arith)) k in
-    c.intersection.ensures k ∙ ap₂ ◌&&◌ (c.all.ensures k) held ∙ letter_has k (leb a k && leb k b)
+    let fits = inside a b c.slots_below-from.result c.slots_below-to.result c.slots_below-from.ensures c.slots_below-to.ensures in
+    by_letters _ (λ k. leb a k && leb k b) (λ i h. fits 0 c.word.result c.word.ensures i h (omega arith))
+    (λ i h e. cut_has _ i h e ∙ fits 64 c.word-2.result c.word-2.ensures i h (omega arith))
+    (λ i h. fits 128 c.word-3.result c.word-3.ensures i h (omega arith))

@@ -12,7 +12,7 @@ only-here-requires c =
 pub show-requires : goal.show-requires
 show-requires c =
     let fit = c.requires.0 in
-    (omega arith, omega (arith, c.requires.3), fit.bounded.letters, showable fit c.requires.1.rows (honest_none fit))
+    (omega arith, omega (arith, c.requires.3), showable fit c.requires.1.rows (honest_none fit))
 
 pub unwrap-x-requires : goal.unwrap-x-requires
 unwrap-x-requires c =
@@ -28,7 +28,6 @@ show-requires-2 c =
     let arrives : c.unwrap-x.result ≤ 60 = way_in_short fit pivot (one_path fit tables) (text_of _ _ _ _ _ _ _ c.unwrap-x.ensures c.show.ensures) in (
       first_low fit c.requires.2.1 c.requires.2.0,
       omega (arith, c.requires.3, c.show.auto.evidence, arrives),
-      fit.bounded.letters,
       showable fit tables.rows (honest fit tables),
     )
 
@@ -47,7 +46,6 @@ show-requires-3 c =
     let loops : c.unwrap-y.result ≤ 1890 = (text_of _ _ _ _ _ _ _ c.unwrap-y.ensures c.show-2.ensures).few in (
       first_low fit c.requires.2.1 c.requires.2.0,
       omega (arith, c.requires.3, c.show.auto.evidence, c.show-2.auto.evidence, arrives, loops),
-      fit.bounded.letters,
       showable fit tables.rows (honest_none fit),
     )
 
