@@ -5,7 +5,7 @@
 ghost use Rattle.std.specs.Prelude.{◌≡◌, true, false, [], ◌∷◌};
 ghost use Rattle.basics.specs.Bytes.{is_in};
 ghost use Rattle.pattern.specs.Parts.{item};
-ghost use Rattle.pattern.specs.Grammar.{special as specialBytes, credit_digit, read_credit, read_letter};
+ghost use Rattle.pattern.specs.Grammar.{special as specialBytes, read_credit, read_letter};
 ghost use Rattle.classes.specs.Classes.{Names, ReadsNamed};
 ghost use Rattle.atoms.specs.Atoms.{ReadsCredit, ReadsAtom};
 
@@ -102,16 +102,9 @@ fn credit(text: &[u8]) -> Option<(u8, &[u8])>
     ensures { ReadsCredit (read_credit text.now) result }
 {
     match text {
-        [b'=', d, rest @ ..] if credit_digit(*d) => Some((9 + (*d - b'0'), rest)),
-        [b'=', MINUS, d, rest @ ..] if credit_digit(*d) => Some((9 - (*d - b'0'), rest)),
+        [b'=', d @ b'1'..=b'9', rest @ ..] => Some((9 + (*d - b'0'), rest)),
+        [b'=', MINUS, d @ b'1'..=b'9', rest @ ..] => Some((9 - (*d - b'0'), rest)),
         [b'=', ..] => None,
         _ => Some((9, text)),
     }
-}
-
-// Is a byte a digit that a credit can have.
-fn credit_digit(d: u8) -> bool
-    ensures { result ≡ credit_digit d }
-{
-    matches!(d, b'1'..=b'9')
 }

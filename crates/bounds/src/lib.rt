@@ -3,7 +3,7 @@
 
 ghost use Rattle.std.specs.Prelude.{◌≡◌, ◌≤◌};
 ghost use Rattle.pattern.specs.Parts.{out_of_bounds};
-ghost use Rattle.pattern.specs.Grammar.{is_digit, read_interval};
+ghost use Rattle.pattern.specs.Grammar.{read_interval};
 ghost use Rattle.bounds.specs.Bounds.{bounds_of, OneDigitMore, ReadsBound, ReadsUpper, ReadsInterval};
 
 // What ends an interval.
@@ -56,7 +56,7 @@ fn bound(text: &[u8]) -> Option<(usize, &[u8])>
     ensures { ReadsBound text.now result }
 {
     match text {
-        [d, ..] if is_digit(*d) => {
+        [b'0'..=b'9', ..] => {
             let (one, rest) = digit_more(0, text);
             let (two, rest) = digit_more(one, rest);
             let three = digit_more(two, rest);
@@ -72,14 +72,7 @@ fn digit_more(value: usize, text: &[u8]) -> (usize, &[u8])
     ensures { OneDigitMore value text.now result.0 result.1.now }
 {
     match text {
-        [d, rest @ ..] if is_digit(*d) => (value * 10 + ((*d - b'0') as usize), rest),
+        [d @ b'0'..=b'9', rest @ ..] => (value * 10 + ((*d - b'0') as usize), rest),
         _ => (value, text),
     }
-}
-
-// Is a byte a decimal digit.
-fn is_digit(d: u8) -> bool
-    ensures { result ≡ is_digit d }
-{
-    matches!(d, b'0'..=b'9')
 }
