@@ -4,10 +4,11 @@ use mathlib.Core.Bool.{and-false, false}
 use mathlib.Core.List.{List, [], ◌∷◌, ◌++◌}
 use Prim.Native.Nat.{ℕ, zero, suc, ◌+◌, ◌≤◌, ◌<◌}
 use native.Mathlib.Omega.{arith}
-use lib.ListN.{length, get_or, length-append}
+use lib.IntN.{pos}
+use lib.ListN.{length, get_or, replicate, length-append}
 use lib.Seq.{take_all, get_or_at}
 use Rattle.basics.proofs.Tests.{by_equal}
-use Rattle.basics.proofs.Lists.{last_other}
+use Rattle.basics.proofs.Lists.{alike, last_other}
 use Rattle.alphabet.specs.Alphabet.{is_letter}
 use Rattle.letters.specs.LetterSet.{has_letter, set_at}
 use Rattle.letters.specs.declared.LetterSet.{LetterSet}
@@ -24,11 +25,11 @@ atom_none : (i : ℕ) → atom_of [] i ≡ no_atom
 atom_none zero = refl
 atom_none (suc i) = refl
 
-pub none_stored : (sets : List LetterSet) (credits : List ℕ) → ((i c : ℕ) → has_letter (set_at sets i) c ≡ false) → ((i : ℕ) → get_or credits i 9 ≡ 9) → Stored [] sets credits
-none_stored sets credits empty nine = record {
+pub none_stored : (sets : List LetterSet) → ((i c : ℕ) → has_letter (set_at sets i) c ≡ false) → Stored [] sets (replicate 61 9)
+none_stored sets empty = record {
   has = λ i c. empty i c ∙ sym (ap (λ (a : Atom). holds a c) (atom_none i) ∙ and-false (is_letter c));
-  credit = λ i. ap (lowered 1) (nine i) ∙ sym (ap (λ (a : Atom). a.credit) (atom_none i));
-  small = λ i. omega (arith, nine i);
+  credit = λ i. alike (λ (n : ℕ). lowered 1 n ≡ pos 0) 61 9 9 refl refl i ∙ sym (ap (λ (a : Atom). a.credit) (atom_none i));
+  small = alike (λ (n : ℕ). n ≤ 18) 61 9 9 (omega arith) (omega arith);
 }
 
 -- ---- one atom more

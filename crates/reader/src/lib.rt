@@ -28,7 +28,10 @@ pub fn read(s: &[u8], more: &mut [u8; 3721]) -> Result<Built, Refusal>
     if !alphabet::all_letters(s) {
         return Err(Refusal::PatternNotLetters);
     }
-    let mut tables = Tables::empty();
+    let mut tables = Tables {
+        sets: set_table::empty(),
+        credits: [9; 61],
+    };
     let p = parts::parse(s, &mut tables, more);
     let part = p.part;
     if !(part.good && part.at == s.len()) {

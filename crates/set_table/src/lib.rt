@@ -1,7 +1,7 @@
 // The tables that are filled from the left as a pattern's atoms are read: what each position holds, and its credit.
 #![tactic(auto)]
 
-ghost use Rattle.std.specs.Prelude.{◌≡◌, false, ℕ, ◌+◌, ◌<◌, ◌≤◌, get_or};
+ghost use Rattle.std.specs.Prelude.{◌≡◌, false, ℕ, ◌+◌, ◌<◌, ◌≤◌};
 ghost use Rattle.letters.specs.LetterSet.{has_letter, set_at};
 ghost use Rattle.set_table.specs.Tables.{Writes, Repeats};
 
@@ -14,18 +14,15 @@ pub struct Tables {
     pub credits: [u8; 61],
 }
 
-impl Tables {
-    // No letters, and the credit 0 for each.
-    pub fn empty() -> Tables
-        ensures { ((i c : ℕ) → has_letter (set_at result.sets i) c ≡ false) × ((i : ℕ) → get_or result.credits i 9 ≡ 9) }
-    {
-        let none = LetterSet::empty();
-        Tables {
-            sets: [none; 61],
-            credits: [9; 61],
-        }
-    }
+// No letters for any position.
+pub fn empty() -> [LetterSet; 61]
+    ensures { (i c : ℕ) → has_letter (set_at result i) c ≡ false }
+{
+    let none = LetterSet::empty();
+    [none; 61]
+}
 
+impl Tables {
     // Entry i becomes the set and the credit.
     pub fn write(&mut self, i: usize, set: LetterSet, credit: u8)
         requires { i < 61 }

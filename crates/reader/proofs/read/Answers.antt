@@ -74,7 +74,7 @@ returns-then-not-all_letters c =
     refuses s 1 _ _ refl (le-ltb 512 (length s) c.if-s-gt-LONGEST.false, tt) (ap not (sym c.all_letters.ensures ∙ c.if-not-all_letters.true))
 
 pub parse-p-requires : goal.parse-p-requires
-parse-p-requires c = (none_stored _ _ c.empty-tables.ensures.0 c.empty-tables.ensures.1, c.requires)
+parse-p-requires c = (none_stored _ c.empty.ensures, c.requires)
 
 pub returns-then-not-part-s : goal.returns-then-not-part-s
 returns-then-not-part-s c =
