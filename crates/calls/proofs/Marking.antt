@@ -40,9 +40,6 @@ module _ (s a : List ℕ) where
   by_letters : pattern_refusal s ≡ 0 → length a ≤ 4096 → mark_refusal s a ≡ (if not (all_letters a) then 10 else 0)
   by_letters e l = by_answer e ∙ if_no 9 (if not (all_letters a) then 10 else 0) (ltb 4096 (length a)) (le-ltb 4096 (length a) l)
 
-  pub no_text : pattern_refusal s ≡ 0 → length a ≤ 4096 → all_letters a ≡ false → mark_refusal s a ≡ 10
-  no_text e l n = by_letters e l ∙ if_yes {A = ℕ} 10 0 (not (all_letters a)) (ap not n)
-
   pub accepted : pattern_refusal s ≡ 0 → length a ≤ 4096 → all_letters a ≡ true → mark_refusal s a ≡ 0
   accepted e l y = by_letters e l ∙ if_no {A = ℕ} 10 0 (not (all_letters a)) (ap not y)
 

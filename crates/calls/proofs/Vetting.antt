@@ -24,14 +24,8 @@ module _ (s : List ℕ) (e w : ℕ) where
   abbrev of_scratch : ℕ
   of_scratch = if ltb w 8192 then 2 else pattern_refusal s
 
-  pub little_evidence : e < 4096 → vet_refusal s e w ≡ 1
-  little_evidence l = if_yes 1 _ (ltb e 4096) (lt-ltb e 4096 l)
-
   by_scratch : 4096 ≤ e → vet_refusal s e w ≡ of_scratch
   by_scratch l = if_no 1 of_scratch (ltb e 4096) (le-ltb e 4096 l)
-
-  pub little_scratch : 4096 ≤ e → w < 8192 → vet_refusal s e w ≡ 2
-  little_scratch l k = by_scratch l ∙ if_yes 2 (pattern_refusal s) (ltb w 8192) (lt-ltb w 8192 k)
 
   pub by_pattern : 4096 ≤ e → 8192 ≤ w → vet_refusal s e w ≡ pattern_refusal s
   by_pattern l k = by_scratch l ∙ if_no 2 (pattern_refusal s) (ltb w 8192) (le-ltb w 8192 k)

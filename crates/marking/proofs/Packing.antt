@@ -80,10 +80,6 @@ fits s e e' w w' (Err e₀) h =
     let n = number_low e₀ in
     record { refusal = omega arith; verdict = omega arith; positions = omega arith; first = omega arith; second = omega arith; third = omega arith }
 
-pub texts_short : (s e e' w w' : List ℕ) (r : Result Vetted Refusal) → VetSays s e e' w w' r → IfOk r (λ v. ShortTexts v.verdict)
-texts_short s e e' w w' (Ok v) h = let f = fits s e e' w w' (Ok v) h in (f.first, f.second, f.third)
-texts_short s e e' w w' (Err e₀) h = tt
-
 -- packed and unpacked again
 same_fields : (r : VetFields) → Fits r
     → (field (vet_packed r) 0 8 ≡ r.refusal)

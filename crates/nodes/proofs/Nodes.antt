@@ -101,19 +101,7 @@ pub pack_node : (a b : ℕ) → Places a b → IsNode (pack a b)
 pack_node = by_order (λ a b. Places a b → IsNode (pack a b)) (λ a b f h. subst IsNode (pack_swap a b) (f (turned b a h)))
     (λ a b l h. subst IsNode (sym (pack_more a b l)) (two {a = a} {b = b} h.right_low l h.left_high))
 
--- a node's two sides, put together again
-pub node_sides : (x : ℕ) → IsNode x → 64 ≤ x → Places (x / 64) (x % 64) × (pack (x / 64) (x % 64) ≡ x)
-node_sides x (one {a} h) k = absurd (omega arith)
-node_sides x (two {a} {b} l m h) k = (
-  record { left_low = omega arith; left_high = omega arith; right_low = omega arith; right_high = omega arith },
-  pack_more ((a * 64 + b) / 64) ((a * 64 + b) % 64) (omega arith) ∙ (omega arith),
-)
-
 -- ---- nodes as the program holds them
-
-pub fits_node : (n : Node) → Fits n → IsNode (number_of n)
-fits_node (Together a) h = one {a = a} h
-fits_node (Two a b) h = two {a = a} {b = b} h.0 h.1 h.2
 
 -- the node of a node's number
 pub numbered_fits : (x : ℕ) (n : Node) → IsNode x → Numbered x n → Fits n × (number_of n ≡ x)
@@ -204,22 +192,9 @@ module _ {to shared seen a own m : ℕ} (p : PartnersOf to shared seen a own m) 
       let z = and_parts (has_bit to b) (has_bit shared b) y.0 in
       (z.0, z.1, not-true (has_bit seen b) y.1, x.1)
 
-  pub partner_in : has_bit m b ≡ true → has_bit to b ≡ true
-  partner_in h = (partner_parts h).0
-
-  partner_of : has_bit to b ≡ true → has_bit shared b ≡ true → has_bit seen b ≡ false → (has_bit own a || not (eqb a b)) ≡ true → has_bit m b ≡ true
-  partner_of x y z w =
-      p.bits b
-      ∙ and_of ((has_bit to b && has_bit shared b) && not (has_bit seen b)) (has_bit own a || not (eqb a b))
-      (and_of (has_bit to b && has_bit shared b) (not (has_bit seen b)) (and_of (has_bit to b) (has_bit shared b) x y) (ap not z)) w
-
 module _ {S : List ℕ} {seen : Seen} {from to own a m : ℕ} (p : PartnersOf to (get_or S a 0) (get_or seen.pairs a 0) a own m) {b : ℕ} where
   pub partner_free : has_bit from a ≡ true → has_bit m b ≡ true → Free S seen from to own a b
   partner_free l h = let x = partner_parts p b h in record { left = l; right = x.0; share = x.1; new = x.2; apart = x.3 }
-
-  -- with an empty word there is none
-  pub free_none : ((i : ℕ) → has_bit m i ≡ false) → Free S seen from to own a b → ⊥
-  free_none z f = true≢false (sym (partner_of p b f.right f.share f.new f.apart) ∙ z b)
 
 -- those of `from` that a loop has passed have none, so that whoever has one is not below the one at hand
 pub free_pending : {S : List ℕ} {seen : Seen} {from to own left a : ℕ} (n m : ℕ) → Passed from left (λ a. (b : ℕ) → Free S seen from to own a b → ⊥) → LeastOf (has_bit left) a → ((j : ℕ) → has_bit n j ≡ ltb j a) → ((j : ℕ) → has_bit m j ≡ (has_bit from j && not (has_bit n j)))
@@ -233,10 +208,6 @@ free_pending {from = from} {left = left} {a = a} n m p least below is c d f =
 -- the members of a row are positions
 pub row_positions : {F : List ℕ} {u m : ℕ} → RowOf F u m → (i : ℕ) → has_bit m i ≡ true → (1 ≤ i) × (i ≤ 60)
 row_positions {F} {u} row i h = let p = goes_parts F u i (sym (row.bits i) ∙ h) in (p.1, p.2)
-
--- and so are those of them that are pending
-pub cut_positions : {F : List ℕ} {u m : ℕ} (pending n : ℕ) → RowOf F u m → ((i : ℕ) → has_bit n i ≡ (has_bit m i && has_bit pending i)) → (i : ℕ) → has_bit n i ≡ true → (1 ≤ i) × (i ≤ 60)
-cut_positions {m = m} pending n row cut i h = row_positions row i (and_parts (has_bit m i) (has_bit pending i) (sym (cut i) ∙ h)).0
 
 -- ---- what is found from a node
 

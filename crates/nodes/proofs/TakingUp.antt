@@ -42,9 +42,6 @@ no_pairs a b = ap (λ (x : ℕ). has_bit x b) (zeros 61 a) ∙ has_none b
 abbrev hit : ℕ → ℕ → ℕ → ℕ → Bool
 hit a b c d = (eqb a c && eqb b d) || (eqb b c && eqb a d)
 
-hit_swap : (a b c d : ℕ) → hit a b c d ≡ hit a b d c
-hit_swap a b c d = ap₂ ◌||◌ (and_comm (eqb a c) (eqb b d)) (and_comm (eqb b c) (eqb a d)) ∙ or_comm (eqb b d && eqb a c) (eqb a d && eqb b c)
-
 -- of two pairs in order
 hit_same : (a b c d : ℕ) → b ≤ a → a < 64 → d ≤ c → c < 64 → hit a b c d ≡ eqb (a * 64 + b) (c * 64 + d)
 hit_same a b c d l m k n =
@@ -87,9 +84,6 @@ module _ (seen : List ℕ) (a b m n : ℕ) (size : length seen ≡ 61) (even : E
       (λ y.
       ap (λ (v : ℕ). has_bit v d) (get_or-set_other seen a c m 0 y) ∙ sym (or-false x)
       ∙ ap (λ (t : Bool). x || t) (sym (ap₂ (λ (s t : Bool). (s && eqb b d) || (t && eqb a d)) (ne_eqb a c (λ q. y (sym q))) (ne_eqb b c (λ q. z (sym q)))))))
-
-  pub rows_even : EvenRows (set (set seen a m) b n)
-  rows_even c d h g = rows c d ∙ ap₂ ◌||◌ (even c d h g) (hit_swap a b c d) ∙ sym (rows d c)
 
 -- the pair of a and b, with b of row a and a of row b
 take_pair : (seen seen' : Seen) (a b m n : ℕ) → 1 ≤ b → b ≤ a → a ≤ 60 → seen'.states ≡ seen.states → seen'.pairs ≡ set (set seen.pairs a m) b n → ((j : ℕ) → has_bit m j ≡ (has_bit (get_or seen.pairs a 0) j || eqb b j))

@@ -55,8 +55,5 @@ module _ {steps : Steps} {s : List ℕ} {positions q m : ℕ} (low : 1 ≤ q) (h
   pub pivot_first : {i : ℕ} → Reached steps s (only_at m) q i → (g : Graph) → Tables g steps → g.positions ≡ positions → IsFirstPivot g (Some q)
   pivot_first r g tables e = (low, pivot_is_first g q (position_is g q low (omega arith)) (pivot_found m q tables only (omega arith) r) (λ k i l. none g tables e k i l))
 
-pub none_yet : {steps : Steps} {positions : ℕ} → NoneBelow steps positions 1
-none_yet g tables e k i l = absurd (let p = position_of g k i in omega arith)
-
 pub none_first : {steps : Steps} {positions q : ℕ} → positions < q → NoneBelow steps positions q → (g : Graph) → Tables g steps → g.positions ≡ positions → IsFirstPivot g None
 none_first l none g tables e = pivot_none g (λ k i. none g tables e k i (let p = position_of g k i in omega arith))

@@ -284,14 +284,6 @@ module _ {steps : Steps} {s s' : List ℕ} {goal : Goal} {start : ℕ} {w w' : S
     first : queue s' 0 ≡ start
     first = v.kept 0 a.sound.queue.begun ∙ a.first
 
-    -- and is no goal
-    pub search_next : is_goal goal (number_of y) ≡ false → Searching steps s' goal start w'
-    search_next e = record {
-      sound = v.sound;
-      first = first;
-      none = λ j l. one_more w.tail (λ j. is_goal goal (queue s' j) ≡ false) (λ j k. ap (is_goal goal) (v.kept j k) ∙ a.none j k) (ap (λ (k : ℕ). is_goal goal (queue s' k)) (sym v.last) ∙ ap (is_goal goal) v.is ∙ e) j (omega (arith, v.more));
-    }
-
     -- and is one
     pub search_found : is_goal goal (number_of y) ≡ true → Reached steps s' goal start i
     search_found e = record {
@@ -303,10 +295,6 @@ module _ {steps : Steps} {s s' : List ℕ} {goal : Goal} {start : ℕ} {w w' : S
       low = omega (arith, v.last, v.more);
       meets = ap (is_goal goal) v.is ∙ e;
     }
-
-    -- the measure of a loop of visits
-    pub visit_less : 2048 - w'.tail < 2048 - w.tail
-    visit_less = omega (arith, v.more, v.sound.queue.few)
 
   -- the search is over
   pub search_over : Ended steps s s' w w' → Searching steps s' goal start w'

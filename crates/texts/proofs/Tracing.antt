@@ -38,9 +38,6 @@ pub record Counted (s : List ℕ) (i j n : ℕ) : Type 0 where
   pub low : j + n ≤ i
   pub whole : (m : ℕ) → Behind s j m → Behind s i (n + m)
 
-pub count_start : (s : List ℕ) (i : ℕ) → Counted s i i 0
-count_start s i = record { low = omega arith; whole = λ m b. let e : m ≡ 0 + m = omega arith in subst (Behind s i) e b }
-
 pub count_next : {s : List ℕ} {i j n : ℕ} → 0 < j → back_of s j < j → Counted s i j n → Counted s i (back_of s j) (n + 1)
 count_next {s} {i} {j} {n} l k c =
     record { low = omega arith; whole = λ m b. let e : n + suc m ≡ n + 1 + m = omega arith in subst (Behind s i) e (c.whole (suc m) (later {i = j} {n = m} l b)) }

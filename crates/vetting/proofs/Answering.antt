@@ -36,7 +36,7 @@ use Rattle.verdict.proofs.Pivots.{first_pivot_is, back_to, Loops, parting_loops}
 use Rattle.verdict.proofs.Shows.{both_last, parting_steady, loops_runaway}
 use Rattle.search.specs.declared.Goal.{Goal}
 use Rattle.nodes.specs.Nodes.{left_of, right_of, Step, single, beside}
-use Rattle.search.specs.Search.{is_goal}
+use Rattle.search.specs.Search.{is_goal, IsFirstPivot}
 use Rattle.shares.specs.Tables.{Rows, Tables, Within, is_doubled, NoneDoubled, held}
 use Rattle.nodes.specs.declared.Steps.{Steps}
 use Rattle.texts.specs.Texts.{letter_at, Showable, ShownText, Shown}
@@ -69,12 +69,6 @@ module _ {b : Built} {more : List ℕ} (fit : Vettable b more) where
   abbrev g : Graph
   g = graph_of_built b more
 
-  pub within : Within b.follow
-  within u i h = let p = position_of g i (fit.bounded.next_to u i (built_next b more u i ∙ h)) in omega (arith, fit.bounded.few)
-
-  pub none_doubled : b.doubled ≡ false → NoneDoubled b.follow more
-  none_doubled e u i = sym (built_doubled b more u i) ∙ fit.single e u i
-
   own : (a : ℕ) → is_position g a ≡ true → shares g a a ≡ true
   own a h =
       let c = lowest_letter_is (g.holds a) (fit.trim.lettered a h) in
@@ -101,21 +95,15 @@ module _ {b : Built} {more : List ℕ} (fit : Vettable b more) where
   abbrev Honest : List ℕ → Type 0
   Honest S = (a c : ℕ) → is_position g a ≡ true → is_position g c ≡ true → has_bit (get_or S a 0) c ≡ true → shares g a c ≡ true
 
-  pub honest : {t : Steps} → Tables g t → Honest t.shares
-  honest tables a c h k e = sym (tables.shares.share a c h k) ∙ e
-
-  pub honest_none : Honest (replicate 61 0)
-  honest_none a c h k e = absurd (false≢true (sym (ap (λ (x : ℕ). has_bit x c) (zeros 61 a) ∙ has_none c) ∙ e))
-
-  pub showable : {t : Steps} → Rows g t.follow → Honest t.shares → (x y : ℕ) → Step t x y → Showable b.letters y
-  showable rows h x y (single {a} l k) =
+  shows_letter : {t : Steps} → Rows g t.follow → Honest t.shares → (x y : ℕ) → Step t x y → Showable b.letters y
+  shows_letter rows h x y (single {a} l k) =
       let i = (rows.comes x a k).0 in
       let p = position_of g a i in
       let low : a < 64 = omega arith in
       let left = left_low a low in
       let right = right_low a low in
       record { left = omega arith; right = omega arith; some = ap₂ (shares g) left right ∙ own a i }
-  showable rows h x y (beside {a} {b = c} p) =
+  shows_letter rows h x y (beside {a} {b = c} p) =
       let i = (rows.comes (left_of x) a p.left).0 in
       let j = (rows.comes (right_of x) c p.right).0 in
       let u = position_of g a i in
@@ -124,6 +112,16 @@ module _ {b : Built} {more : List ℕ} (fit : Vettable b more) where
       ⊎_elim (λ e. let l = e.0 in let r = e.1 in record { left = omega arith; right = omega arith; some = ap₂ (shares g) l r ∙ s })
       (λ e. let l = e.0 in let r = e.1 in record { left = omega arith; right = omega arith; some = ap₂ (shares g) l r ∙ shares_swap g c a ∙ s })
       (sides a c (record { left_low = u.0; left_high = omega arith; right_low = v.0; right_high = omega arith })).sides
+
+  pub showable : {t : Steps} → Tables g t → (x y : ℕ) → Step t x y → Showable b.letters y
+  showable tables = shows_letter tables.rows (λ a c h k e. sym (tables.shares.share a c h k) ∙ e)
+
+  -- the steps of one path, since with no letters shared paths never part
+  abbrev pub alone : Steps → Steps
+  alone t = record { follow = t.follow; doubles = t.doubles; shares = replicate 61 0 }
+
+  pub showable_alone : {t : Steps} → Tables g t → (x y : ℕ) → Step (alone t) x y → Showable b.letters y
+  showable_alone tables = shows_letter tables.rows (λ a c h k e. absurd (false≢true (sym (ap (λ (x : ℕ). has_bit x c) (zeros 61 a) ∙ has_none c) ∙ e)))
 
   -- ---- two paths
 
@@ -175,17 +173,12 @@ module _ {b : Built} {more : List ℕ} (fit : Vettable b more) where
     short : length nodes ≤ g.positions
     text : map (letter_at b.letters) nodes ≡ shown g nodes nodes
 
-  -- the steps of one path
-  pub record OnePath (t : Steps) : Type 0 where
-    pub rows : Rows g t.follow
-    pub none : t.shares ≡ replicate 61 0
-
   abbrev ShownRoute : Steps → List ℕ → List ℕ → ℕ → ℕ → ℕ → ℕ → Type 0
-  ShownRoute t e e' m u base r = ShownText b.letters t e e' (state_in m) u base r
+  ShownRoute t e e' m u base r = ShownText b.letters (alone t) e e' (state_in m) u base r
 
-  routed : {t : Steps} → OnePath t → {m : ℕ} {e e' : List ℕ} {u base r : ℕ} → u ≤ g.positions → (s : ShownRoute t e e' m u base r) → Routed s.nodes u m
-  routed {t} one {m} {u = u} l s =
-      let h = chain_route t one.rows one.none u s.nodes s.goes in
+  routed : {t : Steps} → Tables g t → {m : ℕ} {e e' : List ℕ} {u base r : ℕ} → u ≤ g.positions → (s : ShownRoute t e e' m u base r) → Routed s.nodes u m
+  routed {t} tables {m} {u = u} l s =
+      let h = chain_route (alone t) tables.rows refl u s.nodes s.goes in
       record {
         route = h;
         meets = sym (goal_at m u s.nodes l h) ∙ s.meets;
@@ -193,15 +186,12 @@ module _ {b : Built} {more : List ℕ} (fit : Vettable b more) where
         text = text_same s.nodes ∙ route_text u s.nodes h;
       }
 
-  pub one_path : {t : Steps} → Tables g t → OnePath (record { follow = t.follow; doubles = t.doubles; shares = replicate 61 0 })
-  one_path tables = record { rows = tables.rows; none = refl }
-
   -- where there is a route, a search finds one
-  route_some : {t : Steps} → OnePath t → (m : ℕ) (e e' : List ℕ) {u : ℕ} (base : ℕ) (r : Option ℕ) (c : List ℕ) → u ≤ g.positions → Route g u c → has_bit m (end_of u c) ≡ true
-      → Shown b.letters t e e' (state_in m) u base r → IsSome r
-  route_some {t} one m e e' {u} base None c l h k s =
-      absurd (true≢false (sym (goal_at m u c l h ∙ k) ∙ s.1 c (route_chain t one.rows u c (omega arith) h)))
-  route_some one m e e' base (Some r) c l h k s = refl
+  route_some : {t : Steps} → Tables g t → (m : ℕ) (e e' : List ℕ) {u : ℕ} (base : ℕ) (r : Option ℕ) (c : List ℕ) → u ≤ g.positions → Route g u c → has_bit m (end_of u c) ≡ true
+      → Shown b.letters (alone t) e e' (state_in m) u base r → IsSome r
+  route_some {t} tables m e e' {u} base None c l h k s =
+      absurd (true≢false (sym (goal_at m u c l h ∙ k) ∙ s.1 c (route_chain (alone t) tables.rows u c (omega arith) h)))
+  route_some tables m e e' base (Some r) c l h k s = refl
 
   -- ---- no pivot
 
@@ -234,90 +224,83 @@ module _ {b : Built} {more : List ℕ} (fit : Vettable b more) where
 
   -- ---- a pivot
 
-  pub first_low : {q : ℕ} → first_pivot g ≡ q → 0 < q → q ≤ 60
-  first_low is some = let p = position_of g (first_pivot g) (first_pivot_is g (λ z. omega arith)).0 in omega (arith, fit.bounded.few)
-
-  -- q is the first pivot, and m the set of it alone
-  pub record Pivot (q m : ℕ) : Type 0 where
-    pub is : first_pivot g ≡ q
-    pub some : 0 < q
-    pub only : (j : ℕ) → has_bit m j ≡ eqb q j
-
   shows_same : {x y z u v w : List ℕ} → x ≡ u → y ≡ v → z ≡ w → ShowsRunaway g u v w → ShowsRunaway g x y z
   shows_same {y = y} {z} {u} {v} c d e h = subst (λ (t : List ℕ). ShowsRunaway g t y z) (sym c) (subst (λ (t : List ℕ). ShowsRunaway g u t z) (sym d) (subst (ShowsRunaway g u v) (sym e) h))
 
-  module _ {q m : ℕ} (at : Pivot q m) where
+  module _ {q : ℕ} (pivot : IsFirstPivot g (Some q)) where
     first : (is_position g q ≡ true) × (is_pivot g q ≡ true)
     first =
-        let p = first_pivot_is g (λ z. omega (arith, at.is, at.some)) in
-        (subst (λ (x : ℕ). is_position g x ≡ true) at.is p.0, subst (λ (x : ℕ). is_pivot g x ≡ true) at.is p.1)
+        let p = first_pivot_is g (λ z. omega (arith, pivot)) in
+        (subst (λ (x : ℕ). is_position g x ≡ true) pivot.1 p.0, subst (λ (x : ℕ). is_pivot g x ≡ true) pivot.1 p.1)
 
     low : q ≤ g.positions
     low = (position_of g q first.0).1
 
-    -- each of the three searches finds its goal
+    pub first_low : q ≤ 60
+    first_low = omega (arith, low, fit.bounded.few)
 
     useful : Useful g q
     useful = fit.trim.useful q first.0
 
-    pub way_in_some : {t : Steps} → OnePath t → (e e' : List ℕ) (r : Option ℕ) → Shown b.letters t e e' (state_in m) 0 0 r → IsSome r
-    way_in_some one e e' r = route_some one m e e' 0 r useful.way_in zero-le useful.goes_in (at.only (end_of 0 useful.way_in) ∙ eq-eqb q (end_of 0 useful.way_in) (sym useful.comes))
-
-    pub way_in_short : {t : Steps} → OnePath t → {e e' : List ℕ} {r : ℕ} → ShownRoute t e e' m 0 0 r → r ≤ 60
-    way_in_short one t = omega (arith, (routed one zero-le t).short, t.size, fit.bounded.few)
-
-    pub way_out_some : {t : Steps} → OnePath t → (e e' : List ℕ) (base : ℕ) (r : Option ℕ) → Shown b.letters t e e' (state_in b.lasts) q base r → IsSome r
-    way_out_some one e e' base r = route_some one b.lasts e e' base r useful.way_out low useful.goes_out useful.ends
-
-    back_same : (c d : ℕ) → both_in m c d ≡ back_to q c d
-    back_same c d = ap₂ ◌&&◌ (at.only c ∙ equal_swap q c) (at.only d ∙ equal_swap q d)
-
-    pub loops_some : {t : Steps} → Tables g t → (e e' : List ℕ) (base : ℕ) (r : Option ℕ) → Shown b.letters t e e' (only_at m) q base r → IsSome r
-    loops_some tables e e' base None s =
-        let same : both_in m ≡ back_to q = λ i c d. back_same c d i in
-        absurd (true≢false (sym first.1 ∙ ap (parts_to g q) (sym same) ∙ none_parts tables (only_at m) refl q low s.1))
-    loops_some tables e e' base (Some r) s = refl
-
     at_pivot : (w : Useful g q) (l : Loops g q) → ShowsRunaway g (shown g w.way_in w.way_in) l.text (shown g w.way_out w.way_out)
     at_pivot =
-        subst (λ (k : ℕ). is_position g k ≡ true → (w : Useful g k) (l : Loops g k) → ShowsRunaway g (shown g w.way_in w.way_in) l.text (shown g w.way_out w.way_out)) at.is
+        subst (λ (k : ℕ). is_position g k ≡ true → (w : Useful g k) (l : Loops g k) → ShowsRunaway g (shown g w.way_in w.way_in) l.text (shown g w.way_out w.way_out)) pivot.1
         (λ i w l. loops_runaway g fit.trim i w l) first.0
 
-    -- the three texts
-    pub runaway_answer : {t p : Steps} → Tables g t → OnePath p → {e e1 e2 e3 : List ℕ} {x y z : ℕ} → ShownRoute p e e1 m 0 0 x
-        → ShownText b.letters t e1 e2 (only_at m) q x y → ShownRoute p e2 e3 b.lasts q (x + y) z
-        → Reported g e e3 (Runaway x y z)
-    runaway_answer tables one {e} {e1} {e2} {e3} {x} {y} {z} tx ty tz =
-        let i = routed one zero-le tx in
-        let o = routed one low tz in
-        let w = two_walks tables (back_to q) back_same low ty in
-        let text : List ℕ → List ℕ = map (letter_at b.letters) in
-        let sx : length (text tx.nodes) ≡ x = length-map tx.nodes (letter_at b.letters) ∙ tx.size in
-        let sy : length (text ty.nodes) ≡ y = length-map ty.nodes (letter_at b.letters) ∙ ty.size in
-        let sz : length (text tz.nodes) ≡ z = length-map tz.nodes (letter_at b.letters) ∙ tz.size in
-        let ways : Useful g q = record {
-          way_in = tx.nodes;
-          goes_in = i.route;
-          comes = sym (eqb-true q (end_of 0 tx.nodes) (sym (at.only (end_of 0 tx.nodes)) ∙ i.meets));
-          short_in = i.short;
-          way_out = tz.nodes;
-          goes_out = o.route;
-          ends = o.meets;
-          short_out = o.short;
-        } in
-        let b1 = begins_more [] (text tx.nodes) e e e1 0 x refl sx refl tx.text in
-        let b2 = begins_more (text tx.nodes) (text ty.nodes) e e1 e2 x y sx sy b1 ty.text in
-        let b3 = begins_more (text tx.nodes ++ text ty.nodes) (text tz.nodes) e e2 e3 (x + y) z (length-append (text tx.nodes) (text ty.nodes) ∙ ap₂ ◌+◌ sx sy) sz b2 tz.text in
-        record {
-          verdict_is = sym (if_yes 2 (if ambiguous g then 1 else 0) (not (eqb (first_pivot g) 0)) (ap not (ne_eqb (first_pivot g) 0 (λ n. omega (arith, at.is, at.some)))));
-          shows = record {
-            x = text tx.nodes;
-            y = text ty.nodes;
-            z = text tz.nodes;
-            shows = shows_same i.text w.text o.text (at_pivot ways (parting_loops g q w.walks));
-            first = sym sx;
-            second = sym sy;
-            third = sym sz;
-            written = subst (λ (p : List ℕ). Begins p e e3) (append_assoc (text tx.nodes) (text ty.nodes) (text tz.nodes)) b3;
-          };
-        }
+    -- each of the three searches finds its goal; m is the set of q alone
+    module _ {t : Steps} (tables : Tables g t) (m : ℕ) (only : (j : ℕ) → has_bit m j ≡ eqb q j) where
+      pub way_in_some : (e e' : List ℕ) (r : Option ℕ) → Shown b.letters (alone t) e e' (state_in m) 0 0 r → IsSome r
+      way_in_some e e' r = route_some tables m e e' 0 r useful.way_in zero-le useful.goes_in (only (end_of 0 useful.way_in) ∙ eq-eqb q (end_of 0 useful.way_in) (sym useful.comes))
+
+      pub way_in_short : {e e' : List ℕ} {r : ℕ} → ShownRoute t e e' m 0 0 r → r ≤ 60
+      way_in_short s = omega (arith, (routed tables zero-le s).short, s.size, fit.bounded.few)
+
+      pub way_out_some : (e e' : List ℕ) (base : ℕ) (r : Option ℕ) → Shown b.letters (alone t) e e' (state_in b.lasts) q base r → IsSome r
+      way_out_some e e' base r = route_some tables b.lasts e e' base r useful.way_out low useful.goes_out useful.ends
+
+      back_same : (c d : ℕ) → both_in m c d ≡ back_to q c d
+      back_same c d = ap₂ ◌&&◌ (only c ∙ equal_swap q c) (only d ∙ equal_swap q d)
+
+      pub loops_some : (e e' : List ℕ) (base : ℕ) (r : Option ℕ) → Shown b.letters t e e' (only_at m) q base r → IsSome r
+      loops_some e e' base None s =
+          let same : both_in m ≡ back_to q = λ i c d. back_same c d i in
+          absurd (true≢false (sym first.1 ∙ ap (parts_to g q) (sym same) ∙ none_parts tables (only_at m) refl q low s.1))
+      loops_some e e' base (Some r) s = refl
+
+      -- the three texts
+      pub runaway_answer : {e e1 e2 e3 : List ℕ} {x y z : ℕ} → ShownRoute t e e1 m 0 0 x → ShownText b.letters t e1 e2 (only_at m) q x y → ShownRoute t e2 e3 b.lasts q (x + y) z
+          → Reported g e e3 (Runaway x y z)
+      runaway_answer {e} {e1} {e2} {e3} {x} {y} {z} tx ty tz =
+          let i = routed tables zero-le tx in
+          let o = routed tables low tz in
+          let w = two_walks tables (back_to q) back_same low ty in
+          let text : List ℕ → List ℕ = map (letter_at b.letters) in
+          let sx : length (text tx.nodes) ≡ x = length-map tx.nodes (letter_at b.letters) ∙ tx.size in
+          let sy : length (text ty.nodes) ≡ y = length-map ty.nodes (letter_at b.letters) ∙ ty.size in
+          let sz : length (text tz.nodes) ≡ z = length-map tz.nodes (letter_at b.letters) ∙ tz.size in
+          let ways : Useful g q = record {
+            way_in = tx.nodes;
+            goes_in = i.route;
+            comes = sym (eqb-true q (end_of 0 tx.nodes) (sym (only (end_of 0 tx.nodes)) ∙ i.meets));
+            short_in = i.short;
+            way_out = tz.nodes;
+            goes_out = o.route;
+            ends = o.meets;
+            short_out = o.short;
+          } in
+          let b1 = begins_more [] (text tx.nodes) e e e1 0 x refl sx refl tx.text in
+          let b2 = begins_more (text tx.nodes) (text ty.nodes) e e1 e2 x y sx sy b1 ty.text in
+          let b3 = begins_more (text tx.nodes ++ text ty.nodes) (text tz.nodes) e e2 e3 (x + y) z (length-append (text tx.nodes) (text ty.nodes) ∙ ap₂ ◌+◌ sx sy) sz b2 tz.text in
+          record {
+            verdict_is = sym (if_yes 2 (if ambiguous g then 1 else 0) (not (eqb (first_pivot g) 0)) (ap not (ne_eqb (first_pivot g) 0 (λ n. omega (arith, pivot)))));
+            shows = record {
+              x = text tx.nodes;
+              y = text ty.nodes;
+              z = text tz.nodes;
+              shows = shows_same i.text w.text o.text (at_pivot ways (parting_loops g q w.walks));
+              first = sym sx;
+              second = sym sy;
+              third = sym sz;
+              written = subst (λ (p : List ℕ). Begins p e e3) (append_assoc (text tx.nodes) (text ty.nodes) (text tz.nodes)) b3;
+            };
+          }

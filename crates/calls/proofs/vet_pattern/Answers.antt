@@ -9,32 +9,11 @@ use Rattle.std.specs.Prelude.{Err}
 use Rattle.basics.proofs.Lists.{zeros}
 use Rattle.pattern.proofs.Numbers.{number_low}
 use Rattle.calls.specs.Vetting.{VetSays}
-use Rattle.calls.proofs.Vetting.{little_evidence, little_scratch, by_pattern, says_refusal, says_verdict, trim_built}
+use Rattle.calls.proofs.Vetting.{by_pattern, says_verdict, trim_built}
 use Rattle.calls.proofs.vet_pattern.Goals as goal
-
-pub returns-then-evidence-lt-LEAST_EVIDENCE : goal.returns-then-evidence-lt-LEAST_EVIDENCE
-returns-then-evidence-lt-LEAST_EVIDENCE c =
-    let a = c.args in
-    says_refusal _ a.pattern.now a.evidence.now a.scratch.now (little_evidence a.pattern.now (length a.evidence.now) (length a.scratch.now) c.if-evidence-lt-LEAST_EVIDENCE.true)
-
-pub returns-then-scratch-lt-LEAST_SCRATCH : goal.returns-then-scratch-lt-LEAST_SCRATCH
-returns-then-scratch-lt-LEAST_SCRATCH c =
-    let a = c.args in
-    says_refusal _ a.pattern.now a.evidence.now a.scratch.now
-    (little_scratch a.pattern.now (length a.evidence.now) (length a.scratch.now) c.if-evidence-lt-LEAST_EVIDENCE.false c.if-scratch-lt-LEAST_SCRATCH.true)
 
 pub read-requires : goal.read-requires
 read-requires c = zeros 3721
-
-pub returns-in_err-built : goal.returns-in_err-built
-returns-in_err-built c =
-    let a = c.args in
-    let e = c.in_err-built.field-0.0 in
-    let f = c.in_err-built.ensures.refusal in
-    let is : c.from_residual.result ≡ Err e = search rules in
-    subst (VetSays a.pattern.now a.evidence.now a.evidence.now a.scratch.now a.scratch.now) (sym is)
-    (says_refusal e a.pattern.now a.evidence.now a.scratch.now
-    (by_pattern a.pattern.now (length a.evidence.now) (length a.scratch.now) c.if-evidence-lt-LEAST_EVIDENCE.false c.if-scratch-lt-LEAST_SCRATCH.false ∙ sym f))
 
 pub vet-requires : goal.vet-requires
 vet-requires c =

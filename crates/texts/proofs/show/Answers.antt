@@ -4,9 +4,6 @@ use Rattle.texts.specs.Texts.{Showable}
 use Rattle.texts.proofs.Tracing.{found_leads_back, found_few, found_steps, shown_text}
 use Rattle.texts.proofs.show.Goals as goal
 
-pub steps_to-n-requires : goal.steps_to-n-requires
-steps_to-n-requires c = found_leads_back c.in_ok-i.ensures
-
 pub trace-requires : goal.trace-requires
 trace-requires c =
     let n = c.steps_to-n.ensures in

@@ -3,20 +3,15 @@
 use mathlib.Core.Path.{refl}
 use native.Mathlib.Omega.{arith}
 use Rattle.graph.specs.Built.{graph_of_built}
-use Rattle.vetting.proofs.Answering.{within, none_doubled, tables_of, honest, showable, single_answer, steady_answer}
+use Rattle.vetting.proofs.Answering.{tables_of, showable, single_answer, steady_answer}
 use Rattle.vetting.proofs.vet.Goals.{in-None+in-None-show, in-None+in-Some-show, in-Some}
 use Rattle.vetting.proofs.vet.Goals as goal
-
-pub double_rows-requires : goal.double_rows-requires
-double_rows-requires c =
-    let fit = c.requires.0 in
-    (within fit, none_doubled fit, fit.bounded.few)
 
 pub show-requires : goal.show-requires
 show-requires c =
     let fit = c.requires.0 in
     let tables = tables_of fit _ _ c.double_rows.ensures c.share_rows.ensures in
-    (omega arith, omega (arith, c.requires.1), showable fit tables.rows (honest fit tables))
+    (omega arith, omega (arith, c.requires.1), showable fit tables)
 
 pub runaway-verdict-requires : goal.runaway-verdict-requires
 runaway-verdict-requires c =
