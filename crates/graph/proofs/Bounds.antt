@@ -1,41 +1,12 @@
--- What a bounded graph is to a program over the built pattern that shows it: its sets are numbers below 2 ^ 61, as no member is
--- past the positions. Assumes nothing.
-use mathlib.Core.Path.{◌≡◌, ◌∙◌}
-use mathlib.Core.Bool.{true, false≢true}
-use mathlib.Core.List.{List}
-use Prim.Native.Nat.{ℕ, ◌^◌, ◌≤◌, ◌<◌, zero-le}
+-- Sets of positions are numbers below 2 ^ 61, as no member is past 60. Assumes nothing.
+use mathlib.Core.Path.{◌≡◌}
+use mathlib.Core.Bool.{true}
+use Prim.Native.Nat.{ℕ, ◌^◌, ◌≤◌, ◌<◌}
 use native.Mathlib.Omega.{arith}
-use lib.Dec.{leb}
-use lib.ListN.{get_or}
-use borrow.Author.Tests.{leb-true}
-use Rattle.basics.proofs.Tests.{and_parts, by_test}
+use Rattle.basics.proofs.Tests.{by_test}
 use Rattle.bits.specs.Bits.{has_bit}
 use Rattle.bits.proofs.Laws.{lt_of_high}
-use Rattle.graph.specs.Graph.{no_graph, Bounded}
-use Rattle.graph.specs.Built.{graph_of_built}
-use Rattle.graph.specs.declared.Built.{Built}
-use Rattle.graph.proofs.Links.{built_next}
-
-pub none_bounded : Bounded no_graph
-none_bounded = record {
-  few = zero-le;
-  next_from = λ u i e. absurd (false≢true e);
-  next_to = λ u i e. absurd (false≢true e);
-  last_from = λ u e. absurd (false≢true e);
-  holds_at = λ i b e. absurd (false≢true e);
-  letters = λ i b e. absurd (false≢true e);
-  credits = λ i. zero-le;
-}
 
 -- a word whose members are all at most 60
 pub below : (m : ℕ) → m < 2 ^ 64 → ((j : ℕ) → has_bit m j ≡ true → j ≤ 60) → m < 2 ^ 61
 below m l h = lt_of_high 61 m l (λ j k. by_test (has_bit m j) (λ e. absurd (omega (arith, h j e))) (λ e. e))
-
-module _ (b : Built) (more : List ℕ) (h : Bounded (graph_of_built b more)) where
-  pub row_below : (u : ℕ) → get_or b.follow u 0 < 2 ^ 64 → get_or b.follow u 0 < 2 ^ 61
-  row_below u l =
-      below (get_or b.follow u 0) l
-      (λ j e. let p = leb-true j b.positions (and_parts (leb 1 j) (leb j b.positions) (h.next_to u j (built_next b more u j ∙ e))).1 in let f = h.few in omega arith)
-
-  pub lasts_below : b.lasts < 2 ^ 64 → b.lasts < 2 ^ 61
-  lasts_below l = below b.lasts l (λ j e. let p = h.last_from j e in let f = h.few in omega arith)

@@ -45,10 +45,6 @@ SingleLinks g = (u i : ℕ) → doubled g u i ≡ false
 abbrev pub step : Graph → ℕ → ℕ → ℕ → Bool
 step g u b i = is_position g i && (next g u i && g.holds i b)
 
--- no pattern: no position, no reading
-abbrev pub no_graph : Graph
-no_graph = record { positions = 0; links = λ u i. 0; last = λ u. false; holds = λ i b. false; credit = λ i. pos 0 }
-
 -- what holds of every pattern's graph and bounds the numbers in a program over it: at most 60 positions, nothing beyond them,
 -- letters only, credits from -9 to 9
 pub record Bounded (g : Graph) : Type 0 where

@@ -2,6 +2,8 @@
 // are in such a graph is said in specs/.
 #![tactic(auto)]
 
+ghost use Rattle.std.specs.Prelude.{ℕ, ◌≤◌, ◌<◌, ◌^◌, get_or};
+
 use letters::LetterSet;
 
 // A pattern of up to 60 positions, by value. Entry i of each array is position i's, and entry 0 that of the state before any
@@ -18,4 +20,6 @@ pub struct Built {
     pub lasts: u64,
     pub letters: [LetterSet; 61],
     pub credits: [u8; 61],
+    ghost few: { positions ≤ 60 },
+    ghost within: { (u : ℕ) → get_or follow u 0 < 2 ^ 61 },
 }

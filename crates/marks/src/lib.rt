@@ -26,8 +26,8 @@ pub fn mark(b: Built, more: &[u8; 3721], answer: &[u8]) -> Marked
     requires { Bounded (graph_of_built b more.now) × (b.doubled ≡ false → SingleLinks (graph_of_built b more.now)) × (length answer.now ≤ 4096) }
     ensures { Answered (graph_of_built b more.now) answer.now result.count result.mark × (result.taken ≡ letters_taken (graph_of_built b more.now) answer.now) }
 {
-    let before = columns::states_before(&b.follow, b.positions);
-    let holders = columns::holders_of(&b.letters, b.positions);
+    let before = columns::states_before(&b);
+    let holders = columns::holders_of(&b);
     let links = Links {
         before: &before,
         credits: &b.credits,

@@ -6,19 +6,19 @@ ghost use Rattle.std.specs.Prelude.{◌≡◌, true, false, ◌&&◌, ℕ, ◌+�
 ghost use Rattle.bits.specs.Bits.{has_bit};
 ghost use Rattle.alphabet.specs.Alphabet.{some_letter};
 ghost use Rattle.letters.specs.LetterSet.{has_letter};
-ghost use Rattle.shares.specs.Tables.{Within, is_doubled, NoneDoubled, held};
+ghost use Rattle.shares.specs.Tables.{is_doubled, NoneDoubled, held};
 
+use graph::Built;
 use letters::LetterSet;
 
 // The numbers up to `positions` whose sets share a letter with that of a, for every such a, in rows. Each pair is looked at once: what row
 // a gets of the numbers up to a, these get of a.
-pub fn share_rows(sets: &[LetterSet; 61], positions: usize) -> [u64; 61]
-    requires { positions ≤ 60 }
-    ensures { (a b : ℕ) → a ≤ positions → b ≤ positions → has_bit (get_or result a 0) b ≡ some_letter (held sets.now a b) }
+pub fn share_rows(b: &Built) -> [u64; 61]
+    ensures { (a c : ℕ) → a ≤ b.now.positions → c ≤ b.now.positions → has_bit (get_or result a 0) c ≡ some_letter (held b.now.letters a c) }
 {
     let mut rows = [0u64; 61];
-    for a in 0..=positions {
-        let row = share_row(sets, a);
+    for a in 0..=b.positions {
+        let row = share_row(&b.letters, a);
         columns::enter(&mut rows, row, a);
         rows[a] = row;
     }
@@ -46,21 +46,16 @@ fn share(s: LetterSet, t: LetterSet) -> bool
 
 // The positions to which two links or more lead from u, for every state u up to `positions`, in rows: those of its row of `follow`
 // with a number above 0 in the table of links beyond the first. Where `doubled` says that there are none, nothing is looked up.
-pub fn double_rows(
-    follow: &[u64; 61],
-    more: &[u8; 3721],
-    doubled: bool,
-    positions: usize,
-) -> [u64; 61]
-    requires { Within follow.now × (doubled ≡ false → NoneDoubled follow.now more.now) × (positions ≤ 60) }
-    ensures { (u i : ℕ) → u ≤ positions → has_bit (get_or result u 0) i ≡ is_doubled follow.now more.now u i }
+pub fn double_rows(b: &Built, more: &[u8; 3721]) -> [u64; 61]
+    requires { b.now.doubled ≡ false → NoneDoubled b.now.follow more.now }
+    ensures { (u i : ℕ) → u ≤ b.now.positions → has_bit (get_or result u 0) i ≡ is_doubled b.now.follow more.now u i }
 {
     let mut rows = [0u64; 61];
-    if !doubled {
+    if !b.doubled {
         return rows;
     }
-    for u in 0..=positions {
-        rows[u] = double_row(follow[u], more, u);
+    for u in 0..=b.positions {
+        rows[u] = double_row(b.follow[u], more, u);
     }
     rows
 }

@@ -36,8 +36,8 @@ pub fn vet(b: Built, more: &[u8; 3721], evidence: &mut [u8], scratch: &mut [u16]
 {
     let steps = Steps {
         follow: b.follow,
-        doubles: shares::double_rows(&b.follow, more, b.doubled, b.positions),
-        shares: shares::share_rows(&b.letters, b.positions),
+        doubles: shares::double_rows(&b, more),
+        shares: shares::share_rows(&b),
     };
     let mut scratch = Scratch { numbers: scratch };
     let verdict = match search::first_pivot(&steps, &mut scratch, b.positions) {

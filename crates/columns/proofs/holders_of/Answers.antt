@@ -15,19 +15,19 @@ use Rattle.columns.proofs.holders_of.Goals as goal
 use Rattle.columns.proofs.holders_of.Goals.{then-is_wide, else-is_wide}
 
 pub loop-i-init : goal.loop-i-init
-loop-i-init c = (refl, λ j h. has_none j, columns_start (is_entered c.args.sets.now 0) 256)
+loop-i-init c = (refl, λ j h. has_none j, columns_start (is_entered c.args.b.now.letters 0) 256)
 
 pub enter-requires : goal.enter-requires
 enter-requires c =
     let at = c.loop-i in (
       λ x h. omega (arith, at.invariant.0, letter_below x (is_letter_in c.if-is_wide.entered x h)),
-      omega (arith, at.auto, length-take-le (c.args.positions + 1) c.args.sets.now),
+      omega (arith, at.auto, length-take-le (c.args.b.now.positions + 1) c.args.b.now.letters),
     )
 
 pub loop-i-preserved : goal.loop-i-preserved
 loop-i-preserved c =
-    let sets = c.args.sets.now in
-    let n = c.args.positions + 1 in
+    let sets = c.args.b.now.letters in
+    let n = c.args.b.now.positions + 1 in
     let at = c.loop-i in
     let e = c.enter in
     let l : at.i < n = omega (arith, length-take-le n sets) in
@@ -48,17 +48,17 @@ loop-i-preserved c =
 
 pub returns-then-wide-ne0 : goal.returns-then-wide-ne0
 returns-then-wide-ne0 c =
-    let sets = c.args.sets.now in
+    let sets = c.args.b.now.letters in
     let at = c.loop-i in
     let flip = c.flip_letters in
-    let z : at.i ≡ c.args.positions + 1 = omega (arith, length-take-le (c.args.positions + 1) sets) in
+    let z : at.i ≡ c.args.b.now.positions + 1 = omega (arith, length-take-le (c.args.b.now.positions + 1) sets) in
     subst (λ (n : ℕ). Columns (λ j b. has_letter (set_at sets j) b) n flip.new.table) z
     (all_flipped sets at.i at.wide at.table at.invariant.2 at.invariant.1 flip.new.table flip.ensures)
 
 pub returns-else-wide-ne0 : goal.returns-else-wide-ne0
 returns-else-wide-ne0 c =
-    let sets = c.args.sets.now in
+    let sets = c.args.b.now.letters in
     let at = c.loop-i in
-    let z : at.i ≡ c.args.positions + 1 = omega (arith, length-take-le (c.args.positions + 1) sets) in
+    let z : at.i ≡ c.args.b.now.positions + 1 = omega (arith, length-take-le (c.args.b.now.positions + 1) sets) in
     subst (λ (n : ℕ). Columns (λ j b. has_letter (set_at sets j) b) n at.table) z
     (none_flipped sets at.i at.wide at.table at.invariant.2 c.if-wide-ne0.false)

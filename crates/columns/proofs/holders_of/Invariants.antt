@@ -5,4 +5,4 @@ use Rattle.columns.proofs.Wide.{is_entered, WideBelow}
 use Rattle.columns.proofs.holders_of.Given as goal
 
 abbrev pub invariant-loop-i : goal.invariant-loop-i
-invariant-loop-i l = (length l.table ≡ 256) × WideBelow l.i l.wide × Columns (is_entered l.sets l.wide) l.i l.table
+invariant-loop-i l = (length l.table ≡ 256) × WideBelow l.i l.wide × Columns (is_entered l.b.letters l.wide) l.i l.table

@@ -8,21 +8,21 @@ use Rattle.columns.proofs.Columns.{columns_start, columns_on}
 use Rattle.columns.proofs.states_before.Goals as goal
 
 pub loop-u-init : goal.loop-u-init
-loop-u-init c = (refl, columns_start (λ v i. has_bit (get_or c.args.follow.now v 0) i) 61)
+loop-u-init c = (refl, columns_start (λ v i. has_bit (get_or c.args.b.now.follow v 0) i) 61)
 
 pub enter-requires : goal.enter-requires
 enter-requires c =
     let at = c.loop-u in
-    let n = c.args.positions + 1 in
-    let l : at.u < n = omega (arith, length-take-le n c.args.follow.now) in
-    let row = get_or-take n c.args.follow.now at.u 0 l in
-    (λ x here. omega (arith, at.invariant.0, member_below 61 (get_or (take n c.args.follow.now) at.u 0) x (omega (arith, row, c.requires.1 at.u)) here), omega arith)
+    let n = c.args.b.now.positions + 1 in
+    let l : at.u < n = omega (arith, length-take-le n c.args.b.now.follow) in
+    let row = get_or-take n c.args.b.now.follow at.u 0 l in
+    (λ x here. omega (arith, at.invariant.0, member_below 61 (get_or (take n c.args.b.now.follow) at.u 0) x (omega (arith, row, c.args.b.now.within at.u)) here), omega arith)
 
 pub loop-u-preserved : goal.loop-u-preserved
 loop-u-preserved c =
     let at = c.loop-u in
-    let follow = c.args.follow.now in
-    let n = c.args.positions + 1 in
+    let follow = c.args.b.now.follow in
+    let n = c.args.b.now.positions + 1 in
     let l : at.u < n = omega (arith, length-take-le n follow) in
     let e = subst (λ (m : ℕ). Entered (has_bit m) at.u at.table c.enter.new.table) (get_or-take n follow at.u 0 l) c.enter.ensures in
     (e.size ∙ at.invariant.0, columns_on (λ v i. has_bit (get_or follow v 0) i) at.u at.table c.enter.new.table at.invariant.1 e)
@@ -30,5 +30,5 @@ loop-u-preserved c =
 pub returns : goal.returns
 returns c =
     let at = c.loop-u in
-    let z : at.u ≡ c.args.positions + 1 = omega (arith, length-take-le (c.args.positions + 1) c.args.follow.now) in
-    subst (λ (n : ℕ). Columns (λ v i. has_bit (get_or c.args.follow.now v 0) i) n at.table) z at.invariant.1
+    let z : at.u ≡ c.args.b.now.positions + 1 = omega (arith, length-take-le (c.args.b.now.positions + 1) c.args.b.now.follow) in
+    subst (λ (n : ℕ). Columns (λ v i. has_bit (get_or c.args.b.now.follow v 0) i) n at.table) z at.invariant.1

@@ -7,7 +7,9 @@ use mathlib.Core.List.{List}
 use Prim.Native.Nat.{ℕ, ◌≤◌}
 use native.Mathlib.Omega.{arith}
 use lib.Dec.{eqb}
-use lib.ListN.{length}
+use mir.Val.{Fits}
+use mir.Syntax.{w64}
+use lib.ListN.{length, get_or}
 use borrow.Author.Rules.{rules}
 use borrow.Author.Tests.{lt-ltb, le-ltb, eq-eqb, ne_eqb}
 use Rattle.basics.proofs.Tests.{and_of, and_parts}
@@ -19,8 +21,9 @@ use Rattle.parsed.specs.Parsed.{shape_of}
 use Rattle.parsed.proofs.Storing.{none_stored}
 use Rattle.parsed.specs.declared.Parsed.{Parsed}
 use Rattle.parts.specs.Parsing.{Whole, ParsesAll}
+use Rattle.links.proofs.Linking.{marks_few}
 use Rattle.reader.proofs.Depth.{links_few}
-use Rattle.reader.proofs.Building.{stored_bounded, single_shown}
+use Rattle.reader.proofs.Building.{stored_bounded, row_few, single_shown}
 use Rattle.reader.proofs.Refusals.{tests, Passes, fails_more, refuses, no_refusal, accepts, whole_pattern}
 use Rattle.reader.proofs.read.Goals as goal
 
@@ -125,6 +128,17 @@ returns-then-part-gt-MOST c =
     let ends : (part.good && eqb part.at (length s)) ≡ true = and_of part.good (eqb part.at (length s)) c.if-not-part-s.false.0 (eq-eqb part.at (length s) c.if-not-part-s.false.1) in
     let count = (parsed short letters reads ends).count in
     refuses s 6 _ _ refl (passes_6 short letters reads ends c.if-part-2.false c.if-part-3.false (search rules)) (lt-ltb 60 (positions (pattern_part s)) (omega (arith, c.if-part-gt-MOST.true)))
+
+pub accepted-built-requires : goal.accepted-built-requires
+accepted-built-requires c =
+    let p = c.parse-p.result in
+    let short = c.if-s-gt-LONGEST.false in
+    let letters : all_letters c.args.s.now ≡ true = sym c.all_letters.ensures ∙ c.if-not-all_letters.false in
+    let ends : (p.part.good && eqb p.part.at (length c.args.s.now)) ≡ true = and_of p.part.good _ c.if-not-part-s.false.0 (eq-eqb p.part.at _ c.if-not-part-s.false.1) in
+    let w = (parsed short letters c.parse-p.ensures ends).keeps (few short letters c.parse-p.ensures ends c.if-part-gt-MOST.false) in
+    let firsts : Fits w64 p.part.firsts = search rules in
+    let rows : (u : ℕ) → Fits w64 (get_or p.rows u 0) = λ u. search rules in
+    (c.if-part-gt-MOST.false, marks_few _ _ firsts.fits w.firsts, λ u. row_few p.rows u _ (rows u).fits w.links)
 
 pub returns : goal.returns
 returns c =

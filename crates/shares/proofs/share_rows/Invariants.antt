@@ -6,4 +6,4 @@ use Rattle.shares.specs.Tables.{held}
 use Rattle.shares.proofs.share_rows.Given as goal
 
 abbrev pub invariant-loop-a : goal.invariant-loop-a
-invariant-loop-a l = (length l.rows ≡ 61) × ((i j : ℕ) → i < l.a → has_bit (get_or l.rows i 0) j ≡ (ltb j l.a && some_letter (held l.sets i j)))
+invariant-loop-a l = (length l.rows ≡ 61) × ((i j : ℕ) → i < l.a → has_bit (get_or l.rows i 0) j ≡ (ltb j l.a && some_letter (held l.b.letters i j)))
