@@ -1,6 +1,6 @@
 -- [States] The graph of a pattern's positions, which is all that readings and verdicts depend on: the pattern's position automaton.
 -- A state is 0, before any letter, or a position, 1 to `positions`. It has no other pattern in view: any such graph will do.
-use Rattle.std.specs.Prelude.{◌≡◌, Bool, true, false, ◌&&◌, ℕ, zero, suc, ◌≤◌, leb, ℤ, pos, nat_abs}
+use Rattle.std.specs.Prelude.{◌≡◌, Bool, true, false, ◌&&◌, ℕ, zero, suc, ◌≤◌, leb, ℤ, nat_abs}
 use Rattle.alphabet.specs.Alphabet.{is_letter}
 
 -- are there any; are there two or more

@@ -37,7 +37,7 @@ use Rattle.verdict.proofs.Shows.{both_last, parting_steady, loops_runaway}
 use Rattle.search.specs.declared.Goal.{Goal}
 use Rattle.nodes.specs.Nodes.{left_of, right_of, Step, single, beside}
 use Rattle.search.specs.Search.{is_goal, IsFirstPivot}
-use Rattle.shares.specs.Tables.{Rows, Tables, is_doubled, NoneDoubled, held}
+use Rattle.shares.specs.Tables.{Rows, Tables, is_doubled, held}
 use Rattle.nodes.specs.declared.Steps.{Steps}
 use Rattle.texts.specs.Texts.{letter_at, Showable, ShownText, Shown}
 use Rattle.vetting.specs.declared.Verdict.TheVariants.{Single, Steady, Runaway}

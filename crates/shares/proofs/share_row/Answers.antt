@@ -1,17 +1,10 @@
 -- The word has the numbers passed that share a letter with a. Assumes nothing.
-use borrow.Author.Rules.{rules}
-use mathlib.Core.Path.{◌≡◌, sym, ap, ap₂, ◌∙◌}
-use mathlib.Core.Bool.{Bool, ◌&&◌, ◌||◌}
+use mathlib.Core.Path.{sym, ap, ◌∙◌}
+use mathlib.Core.Bool.{Bool, ◌&&◌}
 use Prim.Native.Nat.{zero-le}
-use native.Mathlib.Omega.{arith}
 use borrow.Author.Tests.{le-ltb}
-use lib.Dec.{eqb}
-use Rattle.basics.proofs.Tests.{one_further}
-use Rattle.bits.specs.Bits.{has_bit}
 use Rattle.bits.proofs.Laws.{has_none}
 use Rattle.alphabet.specs.Alphabet.{some_letter}
-use Rattle.letters.specs.LetterSet.{has_letter}
-use Rattle.letters.proofs.Sets.{read_set}
 use Rattle.shares.specs.Tables.{held}
 use Rattle.shares.proofs.share_row.Goals as goal
 

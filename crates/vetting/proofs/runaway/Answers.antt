@@ -1,6 +1,5 @@
 -- The three searches each find their goal: by the pivot's two loops, and since every position lies on a way from the first letter
 -- to an end. Assumes nothing.
-use Prim.Native.Nat.{◌≤◌}
 use native.Mathlib.Omega.{arith}
 use Rattle.vetting.proofs.Answering.{showable, showable_alone, text_of, first_low, way_in_some, way_in_short, way_out_some, loops_some, runaway_answer}
 use Rattle.vetting.proofs.runaway.Goals as goal
