@@ -9,7 +9,7 @@ use lib.IntN.{ℤ, pos, negsuc, sub_ℕ, nat_abs}
 use lib.ListN.{length}
 use lib.Signed.{mag}
 use borrow.Author.Tests.{lt-ltb, le-ltb, ne_eqb}
-use Rattle.std.specs.Prelude.{if◌then◌else◌, Result, Ok, Err, IfOk}
+use Rattle.std.specs.Prelude.{if◌then◌else◌, Result, Ok, Err}
 use Rattle.basics.proofs.Integers.{sub_neg}
 use Rattle.basics.proofs.Tests.{if_yes, if_no}
 use Rattle.graph.specs.Graph.{Graph}
@@ -26,7 +26,7 @@ use Rattle.vetting.specs.declared.Vetted.{Vetted}
 use Rattle.calls.specs.Marking.{MarkSays}
 use Rattle.calls.specs.Vetting.{VetSays}
 use Rattle.calls.proofs.Vetting.{accepts}
-use Rattle.marking.specs.Packing.{field, VetFields, vet_fields_of, vet_packed, vet_unpacked, ShortTexts, bits32, int32, mark_fields_of, mark_unpacked}
+use Rattle.marking.specs.Packing.{field, VetFields, vet_fields_of, vet_packed, vet_unpacked, bits32, int32, mark_fields_of, mark_unpacked}
 use Rattle.marking.specs.ForC.{count_after, MarkForC, VetForC}
 use Rattle.marking.proofs.Stored.{count_stored}
 

@@ -1,14 +1,7 @@
 -- Each refusal by its law, from what reading and the tests say. Where none applies, the graph that was built is the pattern's.
 -- Assumes nothing.
-use mathlib.Core.Path.{◌≡◌, sym, ◌∙◌, subst}
-use Prim.Native.Nat.{ℕ}
-use native.Mathlib.Omega.{arith}
-use lib.ListN.{length, length-replicate}
-use borrow.Author.Rules.{rules}
-use Rattle.std.specs.Prelude.{Err}
+use mathlib.Core.Path.{sym, ◌∙◌}
 use Rattle.basics.proofs.Lists.{zeros}
-use Rattle.pattern.proofs.Numbers.{number_low}
-use Rattle.calls.specs.Marking.{MarkSays}
 use Rattle.calls.proofs.Marking.{accepted, says_mark}
 use Rattle.calls.proofs.mark_answer.Goals as goal
 

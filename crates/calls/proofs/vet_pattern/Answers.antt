@@ -1,14 +1,10 @@
 -- Each refusal by its law, with memory as it was; otherwise what the search shows of the graph that was built, which is the
 -- pattern's and trim. Assumes nothing.
-use mathlib.Core.Path.{◌≡◌, sym, ◌∙◌, subst}
-use Prim.Native.Nat.{ℕ}
+use mathlib.Core.Path.{◌≡◌, sym, ◌∙◌}
 use native.Mathlib.Omega.{arith}
-use lib.ListN.{length, length-replicate}
+use lib.ListN.{length}
 use borrow.Author.Rules.{rules}
-use Rattle.std.specs.Prelude.{Err}
 use Rattle.basics.proofs.Lists.{zeros}
-use Rattle.pattern.proofs.Numbers.{number_low}
-use Rattle.calls.specs.Vetting.{VetSays}
 use Rattle.calls.proofs.Vetting.{by_pattern, says_verdict, trim_built}
 use Rattle.calls.proofs.vet_pattern.Goals as goal
 
