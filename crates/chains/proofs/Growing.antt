@@ -12,7 +12,7 @@ use lib.ListN.{length, length-append}
 use Rattle.std.specs.Prelude.{if◌then◌else◌}
 use Rattle.basics.proofs.Tests.{and_parts, or_parts, by_test, if_no, le_or_lt}
 use Rattle.bits.specs.Bits.{has_bit}
-use Rattle.pattern.specs.Parts.{Part}
+use Rattle.pattern.specs.Parts.{Part, Bounds}
 use Rattle.pattern.specs.Positions.{positions, can_be_empty, is_first, is_last, links}
 use Rattle.pattern.proofs.Moved.{first_moved, last_moved}
 use Rattle.links.specs.Rows.{kept, Marks, Adds, number, after, Counts, Clear, LinksMore}
@@ -34,19 +34,15 @@ room_for k copies w n l few = let o = suc-mul k w in let m = mul-le-mul_right {m
 -- ---- what no copy changes
 
 pub record Like (p r : Parsed) : Type 0 where
-  pub good : r.good ≡ p.good
-  pub place : r.at ≡ p.at
   pub reversed : r.reversed ≡ p.reversed
   pub hollow : r.hollow ≡ p.hollow
   pub misbounded : r.misbounded ≡ p.misbounded
 
 pub like_self : (p : Parsed) → Like p p
-like_self p = record { good = refl; place = refl; reversed = refl; hollow = refl; misbounded = refl }
+like_self p = record { reversed = refl; hollow = refl; misbounded = refl }
 
 pub like_next : (w : ℕ) (p one r : Parsed) → NextPart w one r → Like p one → Like p r
 like_next w p one r c l = record {
-  good = ap (λ (x : Parsed). x.good) c.same ∙ l.good;
-  place = ap (λ (x : Parsed). x.at) c.same ∙ l.place;
   reversed = ap (λ (x : Parsed). x.reversed) c.same ∙ l.reversed;
   hollow = ap (λ (x : Parsed). x.hollow) c.same ∙ l.hollow;
   misbounded = ap (λ (x : Parsed). x.misbounded) c.same ∙ l.misbounded;
@@ -54,8 +50,6 @@ like_next w p one r c l = record {
 
 pub like_joined : (p a b r : Parsed) → Follows a b r → Like p a → Like p b → Like p r
 like_joined p a b r f k l = record {
-  good = f.good ∙ l.good;
-  place = f.place ∙ l.place;
   reversed = f.reversed ∙ ap₂ ◌||◌ k.reversed l.reversed ∙ or_self p.reversed;
   hollow = f.hollow ∙ ap₂ ◌||◌ k.hollow l.hollow ∙ or_self p.hollow;
   misbounded = f.misbounded ∙ ap₂ ◌||◌ k.misbounded l.misbounded ∙ or_self p.misbounded;
@@ -312,21 +306,19 @@ module _ (w copies lower : ℕ) (rows₀ more : List ℕ) (p : Parsed) (some : 0
         }
 
     abbrev pub chained_to : Bool → Parsed
-    chained_to second = record { good = all.good; at = all.at; n = all.n; empty = eqb lower 0 || all.empty; firsts = all.firsts; lasts = end; reversed = all.reversed; hollow = all.hollow; misbounded = all.misbounded; doubled = all.doubled || second }
+    chained_to second = record { n = all.n; empty = eqb lower 0 || all.empty; firsts = all.firsts; lasts = end; reversed = all.reversed; hollow = all.hollow; misbounded = all.misbounded; doubled = all.doubled || second }
 
-    pub stops : (start start-more : List ℕ) (endless : Bool) (back : ℕ) (rows' more' : List ℕ) (second : Bool) → Copied w p.doubled p.n (copies - 1) start start-more rows₀ more → copies ≤ i → ((b : ℕ) → has_bit back b ≡ (has_bit 0 b || (endless && has_bit one.lasts b))) → LinksMore rows more back one.firsts rows' more' second
-        → Chains w copies lower endless start start-more rows' more' p (chained_to second)
-    stops start start-more endless back rows' more' second copied l j linked =
+    pub stops : (start start-more : List ℕ) (b : Bounds) → b.lower ≡ lower → (endless : Bool) → endless ≡ b.endless → (back : ℕ) (rows' more' : List ℕ) (second : Bool) → Copied w p.doubled p.n (copies - 1) start start-more rows₀ more → copies ≤ i → ((b : ℕ) → has_bit back b ≡ (has_bit 0 b || (endless && has_bit one.lasts b))) → LinksMore rows more back one.firsts rows' more' second
+        → Chains w copies b start start-more rows' more' p (chained_to second)
+    stops start start-more b low endless f back rows' more' second copied l j linked =
         let k : copies ≡ suc s.more_made = omega (arith, s.made, s.few) in
         let less : s.more_made ≡ copies - 1 = omega arith in
         record {
-          good = s.all_like.good;
-          place = s.all_like.place;
           count = s.count ∙ ap (λ (v : ℕ). p.n + v * w) less;
           reversed = s.all_like.reversed;
           hollow = s.all_like.hollow;
           misbounded = s.all_like.misbounded;
-          keeps = λ n m tables q b e many low f wide at c kept.
+          keeps = λ n m tables q e many wide at c kept.
               let o = suc-mul (copies - 1) (positions q) in
               let begun : Begun n m q (copies - 1) p rows₀ more =
               record {
@@ -336,6 +328,6 @@ module _ (w copies lower : ℕ) (rows₀ more : List ℕ) (p : Parsed) (some : 0
                 beside = sides n m q (subst (λ (u : ℕ × ℕ). Copied u.0 p.doubled u.1 (copies - 1) start start-more rows₀ more) (λ t. (sym wide t, (at ∙ ap (λ (v : ℕ). n + v) (sym wide)) t)) copied)
                     (omega (arith, room, at, wide, ap (λ (v : ℕ). (copies - 1) * v) wide)) c kept.adds kept.counts kept.none;
               } in
-              subst (λ (x : Shape). Keeps n m (memory rows' more' tables) x (chained_to second)) ((λ t. interval q (low t) s.more_made (f t)) ∙ sym (written q b s.more_made e (sym many ∙ k)))
+              subst (λ (x : Shape). Keeps n m (memory rows' more' tables) x (chained_to second)) ((λ t. interval q (sym low t) s.more_made (f t)) ∙ sym (written q b s.more_made e (sym many ∙ k)))
               (grown_turned n m q lower (copies - 1) tables c s.more_made rows more all one end (s.grown n m tables q wide at c begun) less endless back rows' more' second (chained_to second) j linked refl refl refl refl);
         }

@@ -27,17 +27,14 @@ pub data Copied (w : ℕ) (doubled : Bool) (n : ℕ) : ℕ → List ℕ → List
 
 -- r is the copy of p, w positions further on
 pub record NextPart (w : ℕ) (p r : Parsed) : Type 0 where
-  pub same : r ≡ record { good = p.good; at = p.at; n = p.n + w; empty = p.empty; firsts = r.firsts; lasts = r.lasts; reversed = p.reversed; hollow = p.hollow; misbounded = p.misbounded; doubled = p.doubled }
+  pub same : r ≡ record { n = p.n + w; empty = p.empty; firsts = r.firsts; lasts = r.lasts; reversed = p.reversed; hollow = p.hollow; misbounded = p.misbounded; doubled = p.doubled }
   pub firsts : Moved w p.firsts r.firsts
   pub lasts : Moved w p.lasts r.lasts
 
--- r is p, a part of w positions, written out in copies: whatever bounds and whatever part they are
-pub record Chains (w copies lower : ℕ) (endless : Bool) (rows more rows' more' : List ℕ) (p r : Parsed) : Type 0 where
-  pub good : r.good ≡ p.good
-  pub place : r.at ≡ p.at
+-- r is p, a part of w positions, written out in copies within bounds: whatever part it is
+pub record Chains (w copies : ℕ) (b : Bounds) (rows more rows' more' : List ℕ) (p r : Parsed) : Type 0 where
   pub count : r.n ≡ p.n + (copies - 1) * w
   pub reversed : r.reversed ≡ p.reversed
   pub hollow : r.hollow ≡ p.hollow
   pub misbounded : r.misbounded ≡ p.misbounded
-  pub keeps : (n : ℕ) (m : Memory) (tables : Tables) (q : Part) (b : Bounds) → out_of_bounds b ≡ false → copies ≡ how_many b → lower ≡ b.lower → endless ≡ b.endless
-      → positions q ≡ w → p.n ≡ n + w → Clear n m.rows m.more → Keeps n m (memory rows more tables) (shape_of q) p → Keeps n m (memory rows' more' tables) (shape_of (written_out b q)) r
+  pub keeps : (n : ℕ) (m : Memory) (tables : Tables) (q : Part) → out_of_bounds b ≡ false → copies ≡ how_many b → positions q ≡ w → p.n ≡ n + w → Clear n m.rows m.more → Keeps n m (memory rows more tables) (shape_of q) p → Keeps n m (memory rows' more' tables) (shape_of (written_out b q)) r

@@ -3,23 +3,24 @@
 #![tactic(auto)]
 
 ghost use Rattle.std.specs.Prelude.{◌≡◌, ◌+◌, ◌-◌, ◌*◌, ◌<◌, ◌≤◌};
+ghost use Rattle.bounds.specs.Bounds.{bounds_of};
 ghost use Rattle.chains.specs.Chains.{NextRows, Copied, NextPart, Chains};
 
+use bounds::IntervalRead;
 use parsed::Parsed;
 
-// A part, and copies of it after it, each joined to those before. It may end with each copy from the lower bound on; where it is
-// endless the last copy may go round.
+// A part, and copies of it after it, each joined to those before. It may end with each copy from the lower bound on; where there is
+// no upper bound the last copy may go round.
 pub fn chain(
     p: Parsed,
     w: usize,
     copies: usize,
-    lower: usize,
-    endless: bool,
+    interval: IntervalRead,
     rows: &mut [u64; 61],
     more: &mut [u8; 3721],
 ) -> Parsed
     requires { (0 < w) × (w ≤ p.n) × (0 < copies) × (p.n + (copies - 1) * w ≤ 60) }
-    ensures { Chains w copies lower endless rows.old more.old rows.new more.new p result }
+    ensures { Chains w copies (bounds_of interval) rows.old more.old rows.new more.new p result }
 {
     copy(p.n, p.doubled, w, copies - 1, rows, more);
     let mut all = p;
@@ -28,12 +29,12 @@ pub fn chain(
     for i in 1..copies {
         one = next(one, w);
         all = all.join(rows, one);
-        ends = bits::union_if(lower <= i, all.lasts, ends);
+        ends = bits::union_if(interval.lower <= i, all.lasts, ends);
     }
-    let back = bits::union_if(endless, 0, one.lasts);
+    let back = bits::union_if(interval.upper.is_none(), 0, one.lasts);
     let second = links::link_again(rows, more, back, one.firsts);
     Parsed {
-        empty: (lower == 0) | all.empty,
+        empty: (interval.lower == 0) | all.empty,
         lasts: ends,
         doubled: all.doubled | second,
         ..all

@@ -18,15 +18,21 @@ use Rattle.parsed.specs.declared.Parsed.{Parsed}
 use Rattle.set_table.specs.declared.Tables.{Tables}
 use Rattle.links.specs.Rows.{kept, Marks, Adds, number, after, Counts, Clear, LinksMore}
 use Rattle.parsed.specs.Tables.{Stored}
-use Rattle.parsed.specs.Parsed.{Shape, shape_of, Memory, memory, Keeps, Has, nothing_read, Either, Joins}
+use Rattle.pattern.specs.Grammar.{Read}
+use Rattle.parsed.specs.Parsed.{Shape, shape_of, Memory, memory, Keeps, Has, Gives, nothing_read, Either, Joins}
 use Rattle.parsed.proofs.Shapes.{joined_shape, either_shape, no_shape, Owns}
 use Rattle.links.proofs.Linking.{marks_if, marks_none, adds_none}
 use Rattle.links.proofs.Counting.{counts_both, adds_more, adds_one, counts_new, counts_one}
 
+-- ---- a result
+
+pub gives_as : {text rest : List ℕ} {n : ℕ} {m m' : Memory} {r : Parsed} {R Q : Read} → R ≡ Q → Gives text n m m' Q r rest → Gives text n m m' R r rest
+gives_as {text} {rest} {n} {m} {m'} {r} e w = subst (λ (X : Read). Gives text n m m' X r rest) (sym e) w
+
 -- ---- nothing, and one atom
 
-pub has_nothing : (at n : ℕ) (m : Memory) (empty : Bool) → n ≤ 61 → Has n m m (no_shape empty) (nothing_read at n empty)
-has_nothing at n m empty low = record {
+pub has_nothing : (n : ℕ) (m : Memory) (empty : Bool) → n ≤ 61 → Has n m m (no_shape empty) (nothing_read n empty)
+has_nothing n m empty low = record {
   count = omega arith;
   reversed = refl;
   hollow = refl;
@@ -35,10 +41,10 @@ has_nothing at n m empty low = record {
   stores = λ h al l st. subst (λ (x : List Atom). Stored x m.tables.sets m.tables.credits) (sym (append-nil al)) st;
 }
 
-pub has_read_letter : (n : ℕ) (rows more : List ℕ) (tables tables' : Tables) (x : Atom) (at count own : ℕ) (reversed hollow : Bool) → count ≡ min (n + 1) 61 → (n + 1 ≤ 60 → Marks own (λ b. eqb b (n + 1)))
+pub has_read_letter : (n : ℕ) (rows more : List ℕ) (tables tables' : Tables) (x : Atom) (count own : ℕ) (reversed hollow : Bool) → count ≡ min (n + 1) 61 → (n + 1 ≤ 60 → Marks own (λ b. eqb b (n + 1)))
     → reversed ≡ some_reversed x.items → hollow ≡ not (some_letter (holds x)) → (n + 1 ≤ 60 → (al : List Atom) → length al ≡ n → Stored al tables.sets tables.credits → Stored (al ++ (x ∷ [])) tables'.sets tables'.credits)
-    → Has n (memory rows more tables) (memory rows more tables') (shape_of (letter x)) record { good = true; at = at; n = count; empty = false; firsts = own; lasts = own; reversed = reversed; hollow = hollow; misbounded = false; doubled = false }
-has_read_letter n rows more tables tables' x at count own reversed hollow cuts m turned empty stored = record {
+    → Has n (memory rows more tables) (memory rows more tables') (shape_of (letter x)) record { n = count; empty = false; firsts = own; lasts = own; reversed = reversed; hollow = hollow; misbounded = false; doubled = false }
+has_read_letter n rows more tables tables' x count own reversed hollow cuts m turned empty stored = record {
   count = cuts;
   reversed = turned ∙ sym (or-false (some_reversed x.items));
   hollow = empty ∙ sym (or-false (not (some_letter (holds x))));
@@ -49,23 +55,6 @@ has_read_letter n rows more tables tables' x at count own reversed hollow cuts m
   where
     mine : n + 1 ≤ 60 → Marks own (is_first n (letter x))
     mine h b = m h b ∙ ap (λ (i : ℕ). kept b && eqb b i) (add-one n)
-
--- ---- another result with the same sets
-
-pub keeps_as : (n : ℕ) (m m' : Memory) (x : Shape) (r r' : Parsed) → r'.empty ≡ r.empty → r'.firsts ≡ r.firsts → r'.lasts ≡ r.lasts → r'.doubled ≡ r.doubled → Keeps n m m' x r → Keeps n m m' x r'
-keeps_as n m m' x r r' e f l d k = record {
-  empty = e ∙ k.empty;
-  firsts = subst (λ (s : ℕ). Marks s (x.first n)) (sym f) k.firsts;
-  lasts = subst (λ (s : ℕ). Marks s (x.last n)) (sym l) k.lasts;
-  adds = k.adds;
-  counts = k.counts;
-  none = λ h. k.none (sym d ∙ h);
-}
-
--- the result at another place
-pub has_at : (n : ℕ) (m m' : Memory) (x : Shape) (a : Parsed) (at : ℕ) → Has n m m' x a
-    → Has n m m' x record { good = a.good; at = at; n = a.n; empty = a.empty; firsts = a.firsts; lasts = a.lasts; reversed = a.reversed; hollow = a.hollow; misbounded = a.misbounded; doubled = a.doubled }
-has_at n m m' x a at ha = record { count = ha.count; reversed = ha.reversed; hollow = ha.hollow; misbounded = ha.misbounded; keeps = λ h c. keeps_as n m m' x a _ refl refl refl refl (ha.keeps h c); stores = ha.stores }
 
 -- ---- one link more from each of some to each of some, as a repeat makes them
 
@@ -89,10 +78,10 @@ module _ (n : ℕ) (m m₁ : Memory) (x y : Shape) (a r : Parsed) (k : Keeps n m
   }
 
 pub has_again : (n : ℕ) (m : Memory) (rows more : List ℕ) (tables : Tables) (p : Part) (a : Parsed) → Has n m (memory rows more tables) (shape_of p) a
-    → (k : Repeat) (at : ℕ) (skip loop : Bool) → skips k ≡ skip → loops k ≡ loop → is_misbounded k ≡ false → (back : ℕ) (rows' more' : List ℕ) (second : Bool)
+    → (k : Repeat) (skip loop : Bool) → skips k ≡ skip → loops k ≡ loop → is_misbounded k ≡ false → (back : ℕ) (rows' more' : List ℕ) (second : Bool)
     → ((b : ℕ) → has_bit back b ≡ (has_bit 0 b || (loop && has_bit a.lasts b))) → LinksMore rows more back a.firsts rows' more' second
-    → Has n m (memory rows' more' tables) (shape_of (again k p)) record { good = a.good; at = at; n = a.n; empty = skip || a.empty; firsts = a.firsts; lasts = a.lasts; reversed = a.reversed; hollow = a.hollow; misbounded = a.misbounded; doubled = a.doubled || second }
-has_again n m rows more tables p a ha k at skip loop e f named back rows' more' second j l = record {
+    → Has n m (memory rows' more' tables) (shape_of (again k p)) record { n = a.n; empty = skip || a.empty; firsts = a.firsts; lasts = a.lasts; reversed = a.reversed; hollow = a.hollow; misbounded = a.misbounded; doubled = a.doubled || second }
+has_again n m rows more tables p a ha k skip loop e f named back rows' more' second j l = record {
   count = ha.count;
   reversed = ha.reversed;
   hollow = ha.hollow;

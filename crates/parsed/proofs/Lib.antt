@@ -1,4 +1,3 @@
 pub mod Joining
 pub mod Shapes
-pub mod Standing
 pub mod Storing

@@ -1,14 +1,15 @@
--- What is kept of a part that was parsed: its end, its firsts and lasts, and what it adds to the rows and the tables; and what the
--- functions here make of it.
-use Rattle.std.specs.Prelude.{◌≡◌, Bool, true, false, ◌&&◌, ◌||◌, List, ◌++◌, ℕ, ◌+◌, ◌<◌, ◌≤◌, min, eqb, ltb, length, drop, if◌then◌else◌}
-use Prim.Native.Char.{code}
+-- What is kept of a part that was parsed: its firsts and lasts, and what it adds to the rows and the tables; and what the functions here
+-- make of it.
+use Rattle.std.specs.Prelude.{◌≡◌, Bool, true, false, ◌&&◌, ◌||◌, List, ◌++◌, ℕ, ◌+◌, ◌<◌, ◌≤◌, min, ltb, length, Option}
+use Rattle.std.specs.Borrow.{Bor}
 use Rattle.bits.specs.Bits.{has_bit}
 use Rattle.pattern.specs.Parts.{Atom, Repeat, optional, star, plus, Part, again}
-use Rattle.pattern.specs.Grammar.{Read, read, broken, peek}
+use Rattle.pattern.specs.Grammar.{Read}
 use Rattle.pattern.specs.Positions.{atoms, can_be_empty, is_first, is_last, links}
 use Rattle.pattern.specs.Refusals.{any_reversed, any_empty, any_misbounded}
 use Rattle.set_table.specs.declared.Tables.{Tables}
 use Rattle.links.specs.Rows.{Marks, Adds, Linked, Counts, Clear}
+use Rattle.places.specs.Reads.{Reads}
 use Rattle.parsed.specs.declared.Parsed.{Parsed}
 use Rattle.parsed.specs.declared.Repeat.{Repeat as Repeating}
 use Rattle.parsed.specs.declared.Repeat.TheVariants.{Optional, Star, Plus}
@@ -58,35 +59,22 @@ pub record Has (n : ℕ) (m m' : Memory) (x : Shape) (r : Parsed) : Type 0 where
   pub keeps : n + length x.atoms ≤ 60 → Clear n m.rows m.more → Keeps n m m' x r
   pub stores : n + length x.atoms ≤ 60 → (al : List Atom) → length al ≡ n → Stored al m.tables.sets m.tables.credits → Stored (al ++ x.atoms) m'.tables.sets m'.tables.credits
 
--- r is what was parsed of the text s from the place `at` on: it has the shape x, and the text goes on with `rest`
-pub record Gives (s : List ℕ) (at n : ℕ) (m m' : Memory) (x : Shape) (rest : List ℕ) (r : Parsed) : Type 0 where
-  pub on : at < r.at
-  pub within : r.at ≤ length s
-  pub goes : rest ≡ drop r.at s
-  pub has : Has n m m' x r
+-- r and `rest`, the text after it, stand for what the rules read at the front of a text, R: r has its shape, and something was read
+pub record Gives (text : List ℕ) (n : ℕ) (m m' : Memory) (R : Read) (r : Parsed) (rest : List ℕ) : Type 0 where
+  pub good : R.good ≡ true
+  pub goes : R.rest ≡ rest
+  pub on : length rest < length text
+  pub has : Has n m m' (shape_of R.part) r
 
--- the same where r is good, and r is good where `good` says so
-pub record StandsFor (s : List ℕ) (at n : ℕ) (m m' : Memory) (good : Bool) (x : Shape) (rest : List ℕ) (r : Parsed) : Type 0 where
-  pub same : r.good ≡ good
-  pub gives : r.good ≡ true → Gives s at n m m' x rest r
-
--- it stands for what the rules read there, R
-abbrev pub Stands : List ℕ → ℕ → ℕ → Memory → Memory → Read → Parsed → Type 0
-Stands s at n m m' R r = StandsFor s at n m m' R.good (shape_of R.part) R.rest r
+-- the result stands for it, or the grammar does not hold there
+abbrev pub Stands : List ℕ → ℕ → Memory → Memory → Read → Option (Parsed × Bor (List ℕ)) → Type 0
+Stands text n m m' R r = Reads r (R.good ≡ false) (Gives text n m m' R)
 
 -- ---- what the functions promise
 
--- what is made of a pattern in `( )` with its last byte
-abbrev pub closed_read : Read → Read
-closed_read a = if a.good && eqb (peek a.rest) (code ")") then read a.part (drop 1 a.rest) else broken
-
 -- before the first part: nothing is read, which can be empty for a joining and cannot for branches
-abbrev pub nothing_read : ℕ → ℕ → Bool → Parsed
-nothing_read at n empty = record { good = true; at = at; n = n; empty = empty; firsts = 0; lasts = 0; reversed = false; hollow = false; misbounded = false; doubled = false }
-
--- whatever p stands for, r stands for what `change` makes of it, where the memory was `now` and is now'
-abbrev pub Changes : (Read → Read) → List ℕ → ℕ → Memory → Memory → Parsed → Parsed → Type 0
-Changes change s n now now' p r = (at : ℕ) (m : Memory) (R : Read) → Stands s at n m now R p → Stands s at n m now' (change R) r
+abbrev pub nothing_read : ℕ → Bool → Parsed
+nothing_read n empty = record { n = n; empty = empty; firsts = 0; lasts = 0; reversed = false; hollow = false; misbounded = false; doubled = false }
 
 -- the repeat of the rules that it is
 abbrev pub rule_of : Repeating → Repeat
@@ -94,20 +82,16 @@ rule_of Optional = optional
 rule_of Star = star
 rule_of Plus = plus
 
--- the same for a repeat, at a byte of the text
+-- whatever part p has the shape of, r has that of its repeat
 abbrev pub Repeats : Repeat → List ℕ → List ℕ → List ℕ → List ℕ → Parsed → Parsed → Type 0
-Repeats k rows more rows' more' p r =
-    (s : List ℕ) (at n : ℕ) (m : Memory) (tables : Tables) (R : Read) → p.good ≡ true → p.at < length s → Stands s at n m (memory rows more tables) R p
-    → Stands s at n m (memory rows' more' tables) (read (again k R.part) (drop 1 R.rest)) r
+Repeats k rows more rows' more' p r = (n : ℕ) (m : Memory) (tables : Tables) (q : Part) → Has n m (memory rows more tables) (shape_of q) p → Has n m (memory rows' more' tables) (shape_of (again k q)) r
 
 -- a lettered atom is read: the rows and the links stay, whatever they are
-abbrev pub Letters : List ℕ → ℕ → ℕ → Tables → Tables → Read → Parsed → Type 0
-Letters s at n tables tables' R r = (rows more : List ℕ) → Stands s at n (memory rows more tables) (memory rows more tables') R r
+abbrev pub Letters : List ℕ → ℕ → Tables → Tables → Read → Option (Parsed × Bor (List ℕ)) → Type 0
+Letters text n tables tables' R r = (rows more : List ℕ) → Stands text n (memory rows more tables) (memory rows more tables') R r
 
--- r is a, and b after it: what ends it is b's, and a fact of an atom is one of both
+-- r is a, and b after it: it has as many positions as there are up to b's end, and a fact of an atom is one of both
 pub record Follows (a b r : Parsed) : Type 0 where
-  pub good : r.good ≡ b.good
-  pub place : r.at ≡ b.at
   pub count : r.n ≡ b.n
   pub reversed : r.reversed ≡ (a.reversed || b.reversed)
   pub hollow : r.hollow ≡ (a.hollow || b.hollow)

@@ -2,15 +2,12 @@
 // piece more is read, and where an atom is stored in the tables.
 #![tactic(auto)]
 
-ghost use Rattle.std.specs.Prelude.{◌≡◌, ℕ, ◌≤◌, ◌<◌, drop};
+ghost use Rattle.std.specs.Prelude.{◌≡◌, ◌≤◌};
 ghost use Rattle.pattern.specs.Parts.{skips, loops};
 ghost use Rattle.pattern.specs.Grammar.{read_letter};
-ghost use Rattle.parsed.specs.Parsed.{Memory, rule_of, Letters, Changes, Repeats, nothing_read, Either, Joins, closed_read};
+ghost use Rattle.parsed.specs.Parsed.{rule_of, Letters, Repeats, nothing_read, Either, Joins};
 
 use set_table::Tables;
-
-// What ends a pattern in `( )`.
-const CLOSE: u8 = b')';
 
 // The rows of the tables, one for each position, and row 0.
 const ROWS: usize = 61;
@@ -39,14 +36,12 @@ impl Repeat {
     }
 }
 
-// A part that was parsed: whether the grammar holds so far, where it goes on, how many positions there are up to there, 61 for more than
-// 60; whether the part can be empty, its firsts and its lasts; whether an atom of it has a reversed range, or no letter; whether
-// refusal 11 names an interval of it; whether two positions of it were linked more than once. Where `good` is false the rest means
-// nothing, and where there are more than 60 positions `empty`, `firsts`, `lasts` and `doubled` do not.
+// A part that was parsed: how many positions there are up to its end, 61 for more than 60; whether the part can be empty, its firsts
+// and its lasts; whether an atom of it has a reversed range, or no letter; whether refusal 11 names an interval of it; whether two
+// positions of it were linked more than once. Where there are more than 60 positions `empty`, `firsts`, `lasts` and `doubled` mean
+// nothing.
 #[derive(Clone, Copy)]
 pub struct Parsed {
-    pub good: bool,
-    pub at: usize,
     pub n: usize,
     pub empty: bool,
     pub firsts: u64,
@@ -59,12 +54,10 @@ pub struct Parsed {
 
 impl Parsed {
     // Before the first part of a pattern or a branch.
-    pub fn nothing(at: usize, n: usize, empty: bool) -> Parsed
-        ensures { result ≡ nothing_read at n empty }
+    pub fn nothing(n: usize, empty: bool) -> Parsed
+        ensures { result ≡ nothing_read n empty }
     {
         Parsed {
-            good: true,
-            at,
             n,
             empty,
             firsts: 0,
@@ -110,31 +103,13 @@ impl Parsed {
         }
     }
 
-    // The `)` after a pattern in `( )`.
-    pub fn closed(self, s: &[u8]) -> Parsed
-        ensures { (n : ℕ) (m : Memory) → Changes closed_read s.now n m m self result }
-    {
-        if places::byte_at(s, self.at) != CLOSE {
-            return Parsed {
-                good: false,
-                ..self
-            };
-        }
-        Parsed {
-            at: self.at + 1,
-            ..self
-        }
-    }
-
-    // The part with its repeat, one byte further.
+    // The part with its repeat.
     pub fn again(self, rows: &mut [u64; 61], more: &mut [u8; 3721], repeat: Repeat) -> Parsed
-        requires { self.at < 18446744073709551615 }
         ensures { Repeats (rule_of repeat) rows.old more.old rows.new more.new self result }
     {
         let back = bits::union_if(repeat.loops(), 0, self.lasts);
         let second = links::link_again(rows, more, back, self.firsts);
         Parsed {
-            at: self.at + 1,
             empty: repeat.skips() | self.empty,
             doubled: self.doubled | second,
             ..self
@@ -142,27 +117,19 @@ impl Parsed {
     }
 }
 
-// A lettered atom is a position, its only first and last. Its letters and its credit go to the tables. More than 60 positions count
-// as 61.
-pub fn letter(s: &[u8], at: usize, n: usize, tables: &mut Tables) -> Parsed
+// The lettered atom at the front of a text, and the text after it; `None` where the grammar has none there. It is a position, its only
+// first and last. Its letters and its credit go to the tables. More than 60 positions count as 61.
+pub fn letter<'a>(text: &'a [u8], n: usize, tables: &mut Tables) -> Option<(Parsed, &'a [u8])>
     requires { n ≤ 61 }
-    ensures { Letters s.now at n tables.old tables.new (read_letter (drop at s.now)) result }
+    ensures { Letters text.now n tables.old tables.new (read_letter text.now) result }
 {
-    let Some((a, rest)) = atoms::atom(places::rest(s, at)) else {
-        return Parsed {
-            good: false,
-            ..Parsed::nothing(at, n, false)
-        };
-    };
-    let end = s.len() - rest.len();
+    let (a, rest) = atoms::atom(text)?;
     let k = (n + 1).min(61);
     if k < ROWS {
         tables.write(k, a.set, a.credit);
     }
     let own = links::position(k);
-    Parsed {
-        good: true,
-        at: end,
+    let part = Parsed {
         n: k,
         empty: false,
         firsts: own,
@@ -171,5 +138,6 @@ pub fn letter(s: &[u8], at: usize, n: usize, tables: &mut Tables) -> Parsed
         hollow: a.hollow,
         misbounded: false,
         doubled: false,
-    }
+    };
+    Some((part, rest))
 }

@@ -1,28 +1,28 @@
 -- Patterns and branches, folded from the left. The idea: of what was read so far only the shape counts, and shapes associate; so
--- what the grammar reads from the first place on has the shape so far and, joined to it, the shape of what it reads from here on.
+-- what the grammar reads of the whole text has the shape so far and, joined to it, the shape of what it reads of the text that is left.
 -- Assumes nothing.
-use mathlib.Core.Path.{◌≡◌, refl, sym, ap, ◌∙◌, subst}
+use mathlib.Core.Path.{◌≡◌, refl, sym, ap, ap₂, ◌∙◌, subst}
 use mathlib.Core.Bool.{Bool, true, false, ◌&&◌}
 use mathlib.Core.List.{List}
-use Prim.Native.Nat.{ℕ, zero, suc, ◌+◌, ◌-◌, ◌*◌, ◌<◌, ◌≤◌}
+use Prim.Native.Nat.{ℕ, zero, suc, ◌+◌, ◌*◌, ◌<◌, ◌≤◌}
+use Prim.Native.Char.{code}
+use native.Mathlib.Nat.{lt-suc_self}
 use native.Mathlib.Omega.{arith}
-use lib.ListN.{length, drop}
-use lib.Seq.{drop-drop}
+use lib.Dec.{eqb}
+use lib.ListN.{length, drop, length-drop}
 use Rattle.std.specs.Prelude.{if◌then◌else◌}
-use Rattle.basics.proofs.Tests.{by_test, if_yes, if_no, and_parts, and_when}
+use Rattle.basics.proofs.Tests.{if_yes, if_no}
 use Rattle.pattern.specs.Parts.{Part, joined, either}
-use Rattle.pattern.specs.Grammar.{Read, read, broken, goes_on, piece_from, branch_from, pattern_from}
+use Rattle.pattern.specs.Grammar.{Read, read, broken, peek, goes_on, piece_from, branch_from, pattern_from}
 use Rattle.parsed.specs.declared.Parsed.{Parsed}
-use Rattle.parsed.specs.Parsed.{Shape, shape_of, Memory, memory, Has, StandsFor, Stands, nothing_read, Follows, Either, Joins}
-use Rattle.parts.specs.Parsing.{Parses, both, bar_next}
-use Rattle.parsed.proofs.Standing.{stands_not}
-use Rattle.parts.proofs.Parsing.{moves}
-use Rattle.parsed.proofs.Joining.{has_nothing, has_at, has_either, has_joined}
+use Rattle.parsed.specs.Parsed.{Shape, shape_of, Memory, memory, Has, Gives, nothing_read, Follows, Either, Joins}
+use Rattle.parts.specs.Parsing.{BrokenFrom, GivesFrom}
+use Rattle.parsed.proofs.Joining.{has_nothing, has_either, has_joined}
 use Rattle.parsed.proofs.Shapes.{joined_shape, either_shape, no_shape, joined_none, joined_assoc, either_none, either_assoc, Owns, owns_part, owns_none, owns_joined, owns_either}
 
--- the result at another place
-abbrev pub placed : Parsed → ℕ → Parsed
-placed r t = record { good = r.good; at = t; n = r.n; empty = r.empty; firsts = r.firsts; lasts = r.lasts; reversed = r.reversed; hollow = r.hollow; misbounded = r.misbounded; doubled = r.doubled }
+-- a part, and one read after it
+abbrev both : (Part → Part → Part) → Read → Read → Read
+both combine a b = if b.good then read (combine a.part b.part) b.rest else broken
 
 -- A loop that folds: `self` reads a `first` and, on a test of what comes next and some bytes on, combines it with more of its own kind.
 -- For shapes op does so, with a unit, which can be empty where `none` says so; for a and b in the program, and for the memory after b,
@@ -66,6 +66,10 @@ pieces = record {
   has = λ n m m₁ m₂ m₃ x y a b r ox oy ha hb e. subst (λ (k : Memory). Has n m k (joined_shape x y) r) (sym e.1) (has_joined n m m₁ m₂ x y ox oy a b ha hb m₃.rows r e.0);
 }
 
+-- does another branch follow
+abbrev bar_next : List ℕ → Bool
+bar_next s = eqb (peek s) (code "|")
+
 -- branches to a pattern
 abbrev pub branches : Fold
 branches = record {
@@ -87,134 +91,129 @@ branches = record {
   has = λ n m m₁ m₂ m₃ x y a b r ox oy ha hb e. subst (λ (k : Memory). Has n m k (either_shape x y) r) (sym e.1) (has_either n m m₁ m₂ x y ox oy a b ha hb r e.0);
 }
 
-module _ (F : Fold) (s : List ℕ) (at n : ℕ) (m : Memory) where
-  -- r stands for the shape x and, joined to it, what the grammar reads at the depth d from t on
-  abbrev Rest : ℕ → Shape → ℕ → Memory → Parsed → Type 0
-  Rest d x t m' r = let R = F.self d (drop t s) in StandsFor s at n m m' R.good (F.op x (shape_of R.part)) R.rest r
+module _ (F : Fold) where
+  -- R is good where Q is, and then it is the shape x and, joined to it, Q
+  pub record Then (x : Shape) (R Q : Read) : Type 0 where
+    pub bad : Q.good ≡ false → R.good ≡ false
+    pub good : Q.good ≡ true → R.good ≡ true
+    pub goes : Q.good ≡ true → R.rest ≡ Q.rest
+    pub shape : Q.good ≡ true → shape_of R.part ≡ F.op x (shape_of Q.part)
 
-  -- a, and the memory now, have the shape of what was read so far of what the grammar reads at the depth f
-  pub record Partly (f : ℕ) (now : Memory) (a : Parsed) : Type 0 where
-    pub depth : ℕ
-    pub enough : 3 * (length s - a.at) + suc F.rank < depth
-    pub shape : Shape
-    pub owns : Owns shape
-    pub has : Has n m now shape a
-    pub goes : (m' : Memory) (r : Parsed) → Rest depth shape a.at m' r → Stands s at n m m' (F.self f (drop at s)) r
-
-  pub record Sofar (now : Memory) (a : Parsed) : Type 0 where
-    pub on : at ≤ a.at
-    pub few : a.n ≤ 61
-    pub partly : (f : ℕ) → 3 * (length s - at) + suc F.rank < f → Partly f now a
-
-  begin : n ≤ 61 → Sofar m (nothing_read at n F.none)
-  begin l = record {
-    on = omega arith;
-    few = l;
-    partly = λ f h. record {
-      depth = f;
-      enough = h;
-      shape = no_shape F.none;
-      owns = owns_none F.none;
-      has = has_nothing at n m F.none l;
-      goes = λ m' r w. let R = F.self f (drop at s) in subst (λ (x : Shape). StandsFor s at n m m' R.good x R.rest r) (F.unit (shape_of R.part)) w;
-    };
+  then_more : (x : Shape) → Owns x → (R A B : Read) → Then x R (both F.combine A B) → Then (F.op x (shape_of A.part)) R B
+  then_more x ox R A B t = record {
+    bad = λ g. t.bad (ap (λ (X : Read). X.good) (no g));
+    good = λ g. t.good (ap (λ (X : Read). X.good) (yes g));
+    goes = λ g. t.goes (ap (λ (X : Read). X.good) (yes g)) ∙ ap (λ (X : Read). X.rest) (yes g);
+    shape = λ g. t.shape (ap (λ (X : Read). X.good) (yes g)) ∙ ap (λ (X : Read). F.op x (shape_of X.part)) (yes g) ∙ ap (F.op x) (F.shapes A.part B.part)
+        ∙ sym (F.assoc x (shape_of A.part) (shape_of B.part) ox (owns_part A.part) (owns_part B.part));
   }
+    where
+      yes : B.good ≡ true → both F.combine A B ≡ read (F.combine A.part B.part) B.rest
+      yes g = if_yes (read (F.combine A.part B.part) B.rest) broken B.good g
 
-  pub begins : n ≤ 61 → (a : Parsed) → a ≡ nothing_read at n F.none → Sofar m a
-  begins l a e = subst (Sofar m) (sym e) (begin l)
+      no : B.good ≡ false → both F.combine A B ≡ broken
+      no g = if_no (read (F.combine A.part B.part) B.rest) broken B.good g
 
-  -- one more, b, is combined with a: that is r
-  module _ (now now' now'' : Memory) (a b r : Parsed) (so : Sofar now a) (parses : Parses F.first F.rank s a.at a.n now now' b) (combined : F.Combined now' now'' a b r) where
-    follows : Follows a b r
-    follows = F.follows now' now'' a b r combined
+  module _ (text : List ℕ) (n : ℕ) (m : Memory) where
+    -- a, and the memory now, have the shape of what was read so far of what the grammar reads at the depth f; it reads the rest of it
+    -- of the text that is left
+    pub record Partly (f : ℕ) (left : List ℕ) (now : Memory) (a : Parsed) : Type 0 where
+      pub depth : ℕ
+      pub enough : 3 * length left + suc F.rank < depth
+      pub shape : Shape
+      pub owns : Owns shape
+      pub has : Has n m now shape a
+      pub rest : Then shape (F.self f text) (F.self depth left)
 
-    has : (x y : Shape) → Owns x → Owns y → Has n m now x a → Has a.n now now' y b → Has n m now'' (F.op x y) r
-    has x y ox oy hx hy = F.has n m now now' now'' x y a b r ox oy hx hy combined
+    pub record Sofar (left : List ℕ) (now : Memory) (a : Parsed) : Type 0 where
+      pub within : length left ≤ length text
+      pub few : a.n ≤ 61
+      pub partly : (f : ℕ) → 3 * length text + suc F.rank < f → Partly f left now a
 
-    abbrev here : ℕ → Read
-    here f = F.first f (drop a.at s)
+    begin : n ≤ 61 → Sofar text m (nothing_read n F.none)
+    begin l = record {
+      within = omega arith;
+      few = l;
+      partly = λ f h. record {
+        depth = f;
+        enough = h;
+        shape = no_shape F.none;
+        owns = owns_none F.none;
+        has = has_nothing n m F.none l;
+        rest = record { bad = λ g. g; good = λ g. g; goes = λ g. refl; shape = λ g. sym (F.unit (shape_of (F.self f text).part)) };
+      };
+    }
 
-    -- the test is the code's
-    tested : (f : ℕ) → Stands s a.at a.n now now' (here f) b → ((here f).good && F.test (here f).rest) ≡ (r.good && F.test (drop r.at s))
-    tested f v =
-        ap (λ (g : Bool). g && F.test (here f).rest) (sym v.same)
-        ∙ and_when b.good (F.test (here f).rest) (F.test (drop b.at s)) (λ g. ap F.test (v.gives g).goes)
-        ∙ sym (ap (λ (g : Bool). g && F.test (drop r.at s)) follows.good ∙ ap (λ (t : ℕ). b.good && F.test (drop t s)) follows.place)
+    pub begins : n ≤ 61 → (a : Parsed) → a ≡ nothing_read n F.none → Sofar text m a
+    begins l a e = subst (Sofar text m) (sym e) (begin l)
 
-    last_one : (r.good && F.test (drop r.at s)) ≡ false → (d : ℕ) (x : Shape) → Owns x → 3 * (length s - a.at) + suc F.rank < d → Has n m now x a → Rest d x a.at now'' r
-    last_one e zero x ox h hx = absurd (omega arith)
-    last_one e (suc f) x ox h hx =
-        let v : Stands s a.at a.n now now' (here f) b = parses f (omega arith) in
-        subst (λ (R : Read). StandsFor s at n m now'' R.good (F.op x (shape_of R.part)) R.rest r)
-        (sym (F.step f (drop a.at s) ∙ if_no (both F.combine (here f) (F.self f (drop F.skip (here f).rest))) (here f) ((here f).good && F.test (here f).rest) (tested f v ∙ e)))
-        record {
-          same = follows.good ∙ v.same;
-          gives = λ g.
-              let y = v.gives (sym follows.good ∙ g) in
-              let on = so.on in
-              let place = follows.place in
-              record { on = omega arith; within = omega arith; goes = y.goes ∙ ap (λ (t : ℕ). drop t s) (sym place); has = has x (shape_of (here f).part) ox (owns_part (here f).part) hx y.has };
-        }
+    module _ (left : List ℕ) (now : Memory) (a : Parsed) (so : Sofar left now a) where
+      -- none comes
+      pub breaks : BrokenFrom F.first F.rank left → BrokenFrom F.self (suc F.rank) text
+      breaks e f h = let w = so.partly f h in w.rest.bad (none w.depth w.enough)
+        where
+          none : (d : ℕ) → 3 * length left + suc F.rank < d → (F.self d left).good ≡ false
+          none zero l = absurd (omega arith)
+          none (suc d) l =
+              let A = F.first d left in
+              let bad : A.good ≡ false = e d (omega arith) in
+              ap (λ (X : Read). X.good) (F.step d left ∙ if_no (both F.combine A (F.self d (drop F.skip A.rest))) A (A.good && F.test A.rest) (ap (λ (g : Bool). g && F.test A.rest) bad)) ∙ bad
 
-    -- it was the last
-    pub ends : (r.good && F.test (drop r.at s)) ≡ false → Parses F.self (suc F.rank) s at n m now'' r
-    ends e f h = let w = so.partly f h in w.goes now'' r (last_one e w.depth w.shape w.owns w.enough w.has)
+      -- one more, b, is combined with a: that is r
+      module _ (now' now'' : Memory) (b r : Parsed) (rest : List ℕ) (goes : GivesFrom F.first F.rank left a.n now now' b rest) (combined : F.Combined now' now'' a b r) where
+        has : (x : Shape) → Owns x → Has n m now x a → (d : ℕ) → 3 * length left + F.rank < d → Has n m now'' (F.op x (shape_of (F.first d left).part)) r
+        has x ox hx d l = F.has n m now now' now'' x (shape_of (F.first d left).part) a b r ox (owns_part (F.first d left).part) hx (goes d l).has combined
 
-    -- or another comes, from t on
-    module _ (t : ℕ) (there : t ≡ r.at + F.skip) (e : (r.good && F.test (drop r.at s)) ≡ true) where
-      good : b.good ≡ true
-      good = sym follows.good ∙ (and_parts r.good (F.test (drop r.at s)) e).0
+        -- the test is the code's
+        tested : (d : ℕ) → 3 * length left + F.rank < d → ((F.first d left).good && F.test (F.first d left).rest) ≡ F.test rest
+        tested d l = ap₂ (λ (g : Bool) (t : List ℕ). g && F.test t) (goes d l).good (goes d l).goes
 
-      more : (x : Shape) → Owns x → (A B : Read) (m' : Memory) (r' : Parsed) → StandsFor s at n m m' B.good (F.op (F.op x (shape_of A.part)) (shape_of B.part)) B.rest r'
-          → StandsFor s at n m m' (both F.combine A B).good (F.op x (shape_of (both F.combine A B).part)) (both F.combine A B).rest r'
-      more x ox A B m' r' w =
-          by_test B.good
-          (λ g.
-          subst (λ (R : Read). StandsFor s at n m m' R.good (F.op x (shape_of R.part)) R.rest r') (sym (if_yes (read (F.combine A.part B.part) B.rest) broken B.good g))
-          record {
-            same = w.same ∙ g;
-            gives = λ k.
-                let y = w.gives k in
-                record { on = y.on; within = y.within; goes = y.goes; has = subst (λ (z : Shape). Has n m m' z r') (F.assoc x (shape_of A.part) (shape_of B.part) ox (owns_part A.part) (owns_part B.part) ∙ ap (F.op x) (sym (F.shapes A.part B.part))) y.has };
-          })
-          (λ g.
-          subst (λ (R : Read). StandsFor s at n m m' R.good (F.op x (shape_of R.part)) R.rest r') (sym (if_no (read (F.combine A.part B.part) B.rest) broken B.good g))
-          (stands_not s at n m m' false (F.op x (shape_of broken.part)) broken.rest r' (w.same ∙ g) refl))
+        -- it was the last
+        pub ends : F.test rest ≡ false → GivesFrom F.self (suc F.rank) text n m now'' r rest
+        ends e f h = let w = so.partly f h in last w.depth w.enough w.shape w.owns w.has w.rest
+          where
+            last : (d : ℕ) → 3 * length left + suc F.rank < d → (x : Shape) → Owns x → Has n m now x a → Then x (F.self f text) (F.self d left) → Gives text n m now'' (F.self f text) r rest
+            last zero l x ox hx t = absurd (omega arith)
+            last (suc d) l x ox hx t =
+                let low : 3 * length left + F.rank < d = omega arith in
+                let A = F.first d left in
+                let y = goes d low in
+                let is : F.self (suc d) left ≡ A = F.step d left ∙ if_no (both F.combine A (F.self d (drop F.skip A.rest))) A (A.good && F.test A.rest) (tested d low ∙ e) in
+                let g : (F.self (suc d) left).good ≡ true = ap (λ (X : Read). X.good) is ∙ y.good in
+                record {
+                  good = t.good g;
+                  goes = t.goes g ∙ ap (λ (X : Read). X.rest) is ∙ y.goes;
+                  on = let on = y.on in let within = so.within in omega arith;
+                  has = subst (λ (z : Shape). Has n m now'' z r) (sym (t.shape g ∙ ap (λ (X : Read). F.op x (shape_of X.part)) is)) (has x ox hx d low);
+                }
 
-      next_one : (f d : ℕ) (x : Shape) → Owns x → 3 * (length s - a.at) + suc F.rank < d → Has n m now x a → ((m' : Memory) (r' : Parsed) → Rest d x a.at m' r' → Stands s at n m m' (F.self f (drop at s)) r')
-          → Partly f now'' (placed r t)
-      next_one f zero x ox h hx goes = absurd (omega arith)
-      next_one f (suc d) x ox h hx goes =
-          let A = here d in
-          let v : Stands s a.at a.n now now' A b = parses d (omega arith) in
-          let y = v.gives good in
-          let place = follows.place in
-          let all = has x (shape_of A.part) ox (owns_part A.part) hx y.has in
-          let is : F.self (suc d) (drop a.at s) ≡ both F.combine A (F.self d (drop t s)) = F.step d (drop a.at s) ∙ if_yes (both F.combine A (F.self d (drop F.skip A.rest))) A (A.good && F.test A.rest) (tested d v ∙ e)
-          ∙ ap (λ (l : List ℕ). both F.combine A (F.self d l)) (ap (drop F.skip) y.goes ∙ drop-drop F.skip b.at s ∙ ap (λ (k : ℕ). drop k s) (ap (λ (k : ℕ). k + F.skip) (sym place) ∙ sym there)) in
-          record {
-            depth = d;
-            enough = let on = y.on in let within = y.within in omega arith;
-            shape = F.op x (shape_of A.part);
-            owns = F.owns x (shape_of A.part) ox (owns_part A.part);
-            has = has_at n m now'' (F.op x (shape_of A.part)) r t all;
-            goes = λ m' r' w. goes m' r' (subst (λ (R : Read). StandsFor s at n m m' R.good (F.op x (shape_of R.part)) R.rest r') (sym is) (more x ox A (F.self d (drop t s)) m' r' w));
-          }
+        -- or another comes, in the text that is left then
+        module _ (left' : List ℕ) (there : left' ≡ drop F.skip rest) (e : F.test rest ≡ true) where
+          pub shorter : length left' < length left
+          shorter = let on = (goes _ (lt-suc_self (3 * length left + F.rank))).on in omega (arith, ap length there, length-drop F.skip rest)
 
-      pub goes_further : Sofar now'' (placed r t) × (a.at < t) × (r.at ≤ length s)
-      goes_further =
-          let k = moves F.first F.rank s a.at a.n now now' b parses good in
-          let on = k.0 in
-          let within = k.1 in
-          let few = k.2 in
-          let place = follows.place in
-          let count = follows.count in
-          let start = so.on in (
-            record {
-              on = omega arith;
-              few = omega arith;
-              partly = λ f h. let w = so.partly f h in next_one f w.depth w.shape w.owns w.enough w.has w.goes;
-            },
-            omega arith,
-            omega arith,
-          )
+          next : (R : Read) (d : ℕ) → 3 * length left + suc F.rank < d → (x : Shape) → Owns x → Has n m now x a → Then x R (F.self d left) → (f : ℕ) → R ≡ F.self f text → Partly f left' now'' r
+          next R zero l x ox hx t f k = absurd (omega arith)
+          next R (suc d) l x ox hx t f k =
+              let low : 3 * length left + F.rank < d = omega arith in
+              let A = F.first d left in
+              let is : F.self (suc d) left ≡ both F.combine A (F.self d left') = F.step d left ∙ if_yes (both F.combine A (F.self d (drop F.skip A.rest))) A (A.good && F.test A.rest) (tested d low ∙ e)
+              ∙ ap (λ (l : List ℕ). both F.combine A (F.self d l)) (ap (drop F.skip) (goes d low).goes ∙ sym there) in
+              record {
+                depth = d;
+                enough = omega (arith, shorter);
+                shape = F.op x (shape_of A.part);
+                owns = F.owns x (shape_of A.part) ox (owns_part A.part);
+                has = has x ox hx d low;
+                rest = then_more x ox (F.self f text) A (F.self d left') (subst (λ (u : Read × Read). Then x u.0 u.1) (λ i. (k i, is i)) t);
+              }
+
+          pub goes_further : Sofar left' now'' r
+          goes_further =
+              let y = goes _ (lt-suc_self (3 * length left + F.rank)) in
+              let count = (F.follows now' now'' a b r combined).count in
+              record {
+                within = let within = so.within in omega (arith, shorter);
+                few = omega (arith, y.has.count);
+                partly = λ f h. let w = so.partly f h in next (F.self f text) w.depth w.enough w.shape w.owns w.has w.rest f refl;
+              }

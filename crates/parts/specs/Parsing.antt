@@ -1,38 +1,41 @@
 -- What parsing a pattern, a branch or a piece gives, and the whole pattern.
-use Rattle.std.specs.Prelude.{◌≡◌, Bool, true, false, List, ℕ, zero, suc, ◌+◌, ◌-◌, ◌*◌, ◌<◌, ◌≤◌, min, eqb, ltb, length, drop, if◌then◌else◌}
+use Rattle.std.specs.Prelude.{◌≡◌, true, false, ◌&&◌, List, ℕ, zero, suc, ◌+◌, ◌*◌, ◌<◌, ◌≤◌, min, eqb, ltb, length, drop, Option, if◌then◌else◌}
+use Rattle.std.specs.Borrow.{Bor}
 use Prim.Native.Char.{code}
 use Rattle.letters.specs.declared.LetterSet.{LetterSet}
-use Rattle.pattern.specs.Parts.{Part}
-use Rattle.pattern.specs.Grammar.{Read, read, broken, peek, read_letter, pattern_from, read_pattern, pattern_part}
+use Rattle.pattern.specs.Grammar.{Read, read, broken, peek, pattern_from, read_pattern, pattern_part}
 use Rattle.pattern.specs.Refusals.{any_reversed, any_empty}
 use Rattle.links.specs.Rows.{kept, Marks, Links, number, after, NoneCounted}
+use Rattle.places.specs.Reads.{Reads}
 use Rattle.parsed.specs.declared.Parsed.{Parsed}
+use Rattle.set_table.specs.declared.Tables.{Tables}
 use Rattle.parsed.specs.Tables.{Stored}
-use Rattle.parsed.specs.Parsed.{Shape, shape_of, Memory, Stands, closed_read}
+use Rattle.parsed.specs.Parsed.{Shape, shape_of, Memory, Gives}
+use Rattle.parts.specs.declared.ParsedRows.{ParsedRows}
 
--- r stands for what the function F of the grammar reads from there on, at every depth above the measure by which the code ends:
--- three for each byte left, and the rank
-abbrev pub Parses : (ℕ → List ℕ → Read) → ℕ → List ℕ → ℕ → ℕ → Memory → Memory → Parsed → Type 0
-Parses F rank s at n m m' r = (f : ℕ) → 3 * (length s - at) + rank < f → Stands s at n m m' (F f (drop at s)) r
+-- what the function F of the grammar reads at the front of a text, at every depth above the measure by which the code ends: three for
+-- each byte, and the rank. Nothing, as the grammar does not hold there
+abbrev pub BrokenFrom : (ℕ → List ℕ → Read) → ℕ → List ℕ → Type 0
+BrokenFrom F rank text = (f : ℕ) → 3 * length text + rank < f → (F f text).good ≡ false
 
--- ---- what the functions of the grammar make of what they read
+-- or what p and the text after it stand for
+abbrev pub GivesFrom : (ℕ → List ℕ → Read) → ℕ → List ℕ → ℕ → Memory → Memory → Parsed → List ℕ → Type 0
+GivesFrom F rank text n m m' p rest = (f : ℕ) → 3 * length text + rank < f → Gives text n m m' (F f text) p rest
 
--- a part, and one read after it
-abbrev pub both : (Part → Part → Part) → Read → Read → Read
-both combine a b = if b.good then read (combine a.part b.part) b.rest else broken
+-- the result stands for it
+abbrev pub Parses : (ℕ → List ℕ → Read) → ℕ → List ℕ → ℕ → Memory → Memory → Option (Parsed × Bor (List ℕ)) → Type 0
+Parses F rank text n m m' r = Reads r (BrokenFrom F rank text) (GivesFrom F rank text n m m')
 
--- an atom: a pattern in `( )`, or a lettered one; a piece is an atom, repeated
-abbrev pub atom_from : ℕ → List ℕ → Read
-atom_from zero s = broken
-atom_from (suc f) s = if eqb (peek s) (code "(") then closed_read (pattern_from f (drop 1 s)) else read_letter s
+-- ---- a pattern in `( )`
 
--- does another branch follow
-abbrev pub bar_next : List ℕ → Bool
-bar_next s = eqb (peek s) (code "|")
+-- what is made of it with its last byte
+abbrev pub closed_read : Read → Read
+closed_read a = if a.good && eqb (peek a.rest) (code ")") then read a.part (drop 1 a.rest) else broken
 
--- a pattern in `( )` begins here
-abbrev pub Opens : List ℕ → ℕ → Type 0
-Opens s at = peek (drop at s) ≡ code "("
+-- from the byte after its `(` on
+abbrev pub closed_from : ℕ → List ℕ → Read
+closed_from zero text = broken
+closed_from (suc f) text = closed_read (pattern_from f text)
 
 -- ---- the whole pattern
 
@@ -55,9 +58,11 @@ pub record Whole (x : Shape) (rows more : List ℕ) (sets : List LetterSet) (cre
   pub misbounded : r.misbounded ≡ x.misbounded
   pub keeps : length x.atoms ≤ 60 → Kept x rows more sets credits r
 
--- the result stands for what the rules read of the text s, with no position to its left and nothing in the memory before
-pub record ParsesAll (s rows more : List ℕ) (sets : List LetterSet) (credits : List ℕ) (r : Parsed) : Type 0 where
-  pub same : r.good ≡ (read_pattern s).good
-  pub within : r.good ≡ true → r.at ≤ length s
-  pub rest : r.good ≡ true → (read_pattern s).rest ≡ drop r.at s
-  pub has : r.good ≡ true → Whole (shape_of (pattern_part s)) rows more sets credits r
+-- p and the text after it stand for what the rules read of a text, with no position to its left and nothing in the memory before
+pub record IsPattern (text rows more : List ℕ) (tables : Tables) (p : Parsed) (rest : List ℕ) : Type 0 where
+  pub good : (read_pattern text).good ≡ true
+  pub goes : (read_pattern text).rest ≡ rest
+  pub has : Whole (shape_of (pattern_part text)) rows more tables.sets tables.credits p
+
+abbrev pub ParsesAll : List ℕ → List ℕ → Tables → ParsedRows → Type 0
+ParsesAll text more tables r = Reads r.read ((read_pattern text).good ≡ false) (IsPattern text r.rows more tables)

@@ -1,18 +1,15 @@
 -- What the rules leave of a text is the end of it, whatever they read. Assumes nothing.
 use mathlib.Core.Path.{◌≡◌, sym, ap, ◌∙◌, subst}
-use mathlib.Core.Logic.{⊎_elim}
 use mathlib.Core.Bool.{Bool, true, false, ◌&&◌, not, true≢false}
 use mathlib.Core.List.{List, [], ◌∷◌, ◌++◌, append-nil, append_assoc}
-use Prim.Native.Nat.{ℕ, zero, suc, ◌+◌, ◌-◌, ◌≤◌}
+use Prim.Native.Nat.{ℕ, zero, suc, ◌≤◌, ◌<◌}
 use Prim.Native.Char.{code}
 use native.Mathlib.Omega.{arith}
 use lib.Dec.{eqb}
-use lib.ListN.{length, take, drop, get_or, length-append, take-append-drop, length-drop, drop_of_length-le}
-use lib.Seq.{drop-append_seam}
+use lib.ListN.{length, take, drop, get_or, length-append, take-append-drop}
 use Rattle.std.specs.Prelude.{if◌then◌else◌}
 use Rattle.basics.specs.Bytes.{is_in}
-use Rattle.basics.proofs.Tests.{if_either, le_or_lt}
-use Rattle.places.proofs.Places.{drop_first}
+use Rattle.basics.proofs.Tests.{if_either}
 use Rattle.pattern.specs.Parts.{Item, Bounds, Part}
 use Rattle.pattern.specs.Grammar.{Read, read, peek, special, class_letter, class_letter_long, Items, items_from, Credit, credit_digit, read_credit, with_credit, read_class, read_letter, Bound, bound, is_digit, digit_more, read_bound, Interval, interval, read_interval}
 
@@ -32,14 +29,6 @@ ends_none text = record { taken = text; is = sym (append-nil text) }
 
 ends_more : {a b c : List ℕ} → Ends a b → Ends b c → Ends a c
 ends_more {c = c} x y = record { taken = x.taken ++ y.taken; is = x.is ∙ ap (λ (t : List ℕ). x.taken ++ t) y.is ∙ sym (append_assoc x.taken y.taken c) }
-
--- ---- the place where the rest begins
-
-pub ends_at : {text rest : List ℕ} → Ends text rest → rest ≡ drop (length text - length rest) text
-ends_at {text} {rest} e =
-    let l = length-append e.taken rest in
-    let k : length text - length rest ≡ length e.taken = omega (arith, ap length e.is) in
-    sym (ap (λ (n : ℕ). drop n text) k ∙ ap (drop (length e.taken)) e.is ∙ drop-append_seam e.taken rest)
 
 pub ends_length : {text rest : List ℕ} → Ends text rest → length rest ≤ length text
 ends_length {text} {rest} e = omega (arith, ap length e.is, length-append e.taken rest)
@@ -113,24 +102,11 @@ interval_ends text =
     (λ _.
     if_either P _ _ (is_digit (peek t) && eqb (peek n.rest) (code "}")) (λ _. ends_more after (ends_more (bound_ends t) (ends_drop 1 n.rest))) (λ _. ends_none text)))))
 
--- ---- by places: the text from the place `at` on was read, and rest is left
+-- ---- the length of what is left
 
-pub record Left (s : List ℕ) (at : ℕ) (rest : List ℕ) : Type 0 where
-  pub short : length rest ≤ length s
-  pub on : at ≤ length s - length rest
-  pub goes : rest ≡ drop (length s - length rest) s
+pub letter_on : (text : List ℕ) (p : Part) (rest : List ℕ) → read_letter text ≡ read p rest → length rest < length text
+letter_on [] p rest e = absurd (true≢false (sym (ap (λ (R : Read). R.good) e)))
+letter_on (b ∷ text) p rest e = omega (arith, ends_length (subst (Ends text) (ap (λ (R : Read). R.rest) e) (letter_ends b text)))
 
-ends_left : (s : List ℕ) (at : ℕ) (rest : List ℕ) → at ≤ length s → Ends (drop at s) rest → Left s at rest
-ends_left s at rest h e =
-    let whole = ends_more (ends_drop at s) e in
-    record { short = ends_length whole; on = let l = length-drop at s in omega (arith, ends_length e); goes = ends_at whole }
-
-pub interval_left : (s : List ℕ) (at : ℕ) (b : Bounds) (rest : List ℕ) → at ≤ length s → read_interval (drop at s) ≡ interval b rest → Left s at rest
-interval_left s at b rest h e = ends_left s at rest h (rw e at (interval_ends (drop at s)))
-
-pub letter_left : (s : List ℕ) (at : ℕ) (p : Part) (rest : List ℕ) → read_letter (drop at s) ≡ read p rest → Left s (at + 1) rest
-letter_left s at p rest e =
-    ⊎_elim (λ h. absurd (true≢false (sym (ap (λ (R : Read). R.good) (sym (ap read_letter (drop_of_length-le s {i = at} h)) ∙ e)))))
-    (λ h.
-    ends_left s (at + 1) rest (omega arith)
-    (subst (Ends (drop (at + 1) s)) (ap (λ (R : Read). R.rest) (sym (ap read_letter (drop_first s at h)) ∙ e)) (letter_ends (get_or s at 0) (drop (at + 1) s)))) (le_or_lt (length s) at)
+pub interval_on : (text : List ℕ) (b : Bounds) (rest : List ℕ) → read_interval text ≡ interval b rest → length rest ≤ length text
+interval_on text b rest e = ends_length (subst (Ends text) (ap (λ (I : Interval). I.rest) e) (interval_ends text))

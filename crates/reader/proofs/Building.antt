@@ -32,7 +32,7 @@ use Rattle.links.proofs.Counting.{after_few}
 use Rattle.parsed.specs.Tables.{atom_of, Stored}
 use Rattle.parsed.specs.Parsed.{shape_of}
 use Rattle.parts.specs.Parsing.{Kept}
-use Rattle.parts.specs.declared.ParsedRows.{ParsedRows}
+use Rattle.parsed.specs.declared.Parsed.{Parsed}
 
 -- an atom of up to 60 is stored
 atom_kept_at : (x : Part) → positions x ≤ 60 → (i : ℕ) → atom_of (atoms x) i ≡ atom_at x i
@@ -64,17 +64,17 @@ pub first_few : (rows : List ℕ) (row : ℕ) → 0 < length rows → row < 2 ^ 
 first_few rows row long h l zero = subst (λ m. m < 2 ^ 61) (sym (get_or-set_same rows 0 row 0 long)) h
 first_few rows row long h l (suc u) = subst (λ m. m < 2 ^ 61) (sym (get_or-set_other rows 0 (suc u) row 0 (λ z. omega arith))) (l (suc u))
 
-module _ (p : ParsedRows) (sets : List LetterSet) (credits : List ℕ) (lasts : ℕ) (long : 0 < length p.rows) (low : p.part.n ≤ 60) (within : (u : ℕ) → get_or (set p.rows 0 p.part.firsts) u 0 < 2 ^ 61) (ends : (j : ℕ) → has_bit lasts j ≡ (has_bit p.part.lasts j || (p.part.empty && eqb 0 j))) where
+module _ (p : Parsed) (rows : List ℕ) (sets : List LetterSet) (credits : List ℕ) (lasts : ℕ) (long : 0 < length rows) (low : p.n ≤ 60) (within : (u : ℕ) → get_or (set rows 0 p.firsts) u 0 < 2 ^ 61) (ends : (j : ℕ) → has_bit lasts j ≡ (has_bit p.lasts j || (p.empty && eqb 0 j))) where
   abbrev made : Built
-  made = record { positions = p.part.n; follow = set p.rows 0 p.part.firsts; doubled = p.part.doubled; lasts = lasts; letters = sets; credits = credits; few = low; within = within }
+  made = record { positions = p.n; follow = set rows 0 p.firsts; doubled = p.doubled; lasts = lasts; letters = sets; credits = credits; few = low; within = within }
 
-  module _ (x : Part) (more : List ℕ) (w : Kept (shape_of x) p.rows more sets credits p.part) (few : positions x ≤ 60) (some_links : (u i : ℕ) → links_of x u i ≤ 256) where
+  module _ (x : Part) (more : List ℕ) (w : Kept (shape_of x) rows more sets credits p) (few : positions x ≤ 60) (some_links : (u i : ℕ) → links_of x u i ≤ 256) where
     -- no link leads from 0, which is no position
     none_from_0 : (i : ℕ) → links 0 x 0 i ≡ 0
     none_from_0 i = by_test (some (links 0 x 0 i)) (λ e. let o = (follow_own x 0 0 i e).0 in absurd (omega arith)) (none_of (links 0 x 0 i))
 
     first_alone : (i : ℕ) → kept i ≡ true → get_or more (entry 0 i) 0 ≡ 0
-    first_alone i k = let e : number p.rows more 0 i ≡ 0 = w.numbers 0 i refl k ∙ ap (λ (n : ℕ). after n 0) (none_from_0 i) in omega arith
+    first_alone i k = let e : number rows more 0 i ≡ 0 = w.numbers 0 i refl k ∙ ap (λ (n : ℕ). after n 0) (none_from_0 i) in omega arith
 
     first_kept : (i : ℕ) → is_first 0 x i ≡ true → kept i ≡ true
     first_kept i e = let o = first_own x 0 i e in lt-ltb i 61 (omega arith)
@@ -87,7 +87,7 @@ module _ (p : ParsedRows) (sets : List LetterSet) (credits : List ℕ) (lasts : 
         let r = o.1 in
         (lt-ltb u 61 (omega arith), lt-ltb i 61 (omega arith))
 
-    row_at : (u i : ℕ) → has_bit (get_or p.rows u 0) i ≡ ltb 0 (links 0 x u i)
+    row_at : (u i : ℕ) → has_bit (get_or rows u 0) i ≡ ltb 0 (links 0 x u i)
     row_at u i =
         w.links u i
         ∙ guard (kept u && kept i) (ltb 0 (links 0 x u i)) (λ e. let k = link_kept u i (ltb-true 0 (links 0 x u i) e) in and_of (kept u) (kept i) k.0 k.1)
@@ -95,7 +95,7 @@ module _ (p : ParsedRows) (sets : List LetterSet) (credits : List ℕ) (lasts : 
     links_at : (u i : ℕ) → (graph_of_built made more).links u i ≡ links_of x u i
     links_at zero i =
         ap (λ (b : Bool). if b then suc (get_or more (entry 0 i) 0) else 0)
-        (ap (λ (m : ℕ). has_bit m i) (get_or-set_same p.rows 0 p.part.firsts 0 long) ∙ w.firsts i ∙ guard (kept i) (is_first 0 x i) (first_kept i))
+        (ap (λ (m : ℕ). has_bit m i) (get_or-set_same rows 0 p.firsts 0 long) ∙ w.firsts i ∙ guard (kept i) (is_first 0 x i) (first_kept i))
         ∙ one (is_first 0 x i) (λ e. first_alone i (first_kept i e))
       where
         one : (b : Bool) → (b ≡ true → get_or more (entry 0 i) 0 ≡ 0) → ◌≡◌ {A = ℕ} (if b then suc (get_or more (entry 0 i) 0) else 0) (if b then 1 else 0)
@@ -103,7 +103,7 @@ module _ (p : ParsedRows) (sets : List LetterSet) (credits : List ℕ) (lasts : 
         one false h = refl
     links_at (suc u) i =
         ap (λ (b : Bool). if b then suc (get_or more (entry (suc u) i) 0) else 0)
-        (ap (λ (m : ℕ). has_bit m i) (get_or-set_other p.rows 0 (suc u) p.part.firsts 0 (λ z. omega arith)) ∙ row_at (suc u) i)
+        (ap (λ (m : ℕ). has_bit m i) (get_or-set_other rows 0 (suc u) p.firsts 0 (λ z. omega arith)) ∙ row_at (suc u) i)
         ∙ ⊎_elim
         (λ h. ap (λ (b : Bool). if b then suc (get_or more (entry (suc u) i) 0) else 0) (le-ltb 0 (links 0 x (suc u) i) h) ∙ none h)
         (λ h. ap (λ (b : Bool). if b then suc (get_or more (entry (suc u) i) 0) else 0) (lt-ltb 0 (links 0 x (suc u) i) h) ∙ all h) (le_or_lt (links 0 x (suc u) i) 0)
@@ -114,19 +114,19 @@ module _ (p : ParsedRows) (sets : List LetterSet) (credits : List ℕ) (lasts : 
         all : 0 < links 0 x (suc u) i → suc (get_or more (entry (suc u) i) 0) ≡ links 0 x (suc u) i
         all h =
             let k = link_kept (suc u) i h in
-            let e : number p.rows more (suc u) i ≡ links 0 x (suc u) i = w.numbers (suc u) i k.0 k.1 ∙ after_few (links 0 x (suc u) i) (some_links (suc u) i) in
-            let f : number p.rows more (suc u) i ≡ 1 + get_or more (entry (suc u) i) 0 = ap (λ (b : Bool). (if b then 1 else 0) + get_or more (entry (suc u) i) 0) (row_at (suc u) i ∙ lt-ltb 0 (links 0 x (suc u) i) h) in
+            let e : number rows more (suc u) i ≡ links 0 x (suc u) i = w.numbers (suc u) i k.0 k.1 ∙ after_few (links 0 x (suc u) i) (some_links (suc u) i) in
+            let f : number rows more (suc u) i ≡ 1 + get_or more (entry (suc u) i) 0 = ap (λ (b : Bool). (if b then 1 else 0) + get_or more (entry (suc u) i) 0) (row_at (suc u) i ∙ lt-ltb 0 (links 0 x (suc u) i) h) in
             omega arith
 
     last_at : (u : ℕ) → (graph_of_built made more).last u ≡ last_of x u
-    last_at zero = ends 0 ∙ ap₂ ◌||◌ (w.lasts 0 ∙ no_zero (is_last 0 x 0) (λ e. omega (arith, last_own x 0 0 e))) (and-true p.part.empty) ∙ w.empty
+    last_at zero = ends 0 ∙ ap₂ ◌||◌ (w.lasts 0 ∙ no_zero (is_last 0 x 0) (λ e. omega (arith, last_own x 0 0 e))) (and-true p.empty) ∙ w.empty
       where
         no_zero : (b : Bool) → (b ≡ true → ⊥) → b ≡ false
         no_zero true h = absurd (h refl)
         no_zero false h = refl
     last_at (suc u) =
         ends (suc u) ∙ ap₂ ◌||◌ (w.lasts (suc u) ∙ guard (kept (suc u)) (is_last 0 x (suc u)) (λ e. let o = last_own x 0 (suc u) e in lt-ltb (suc u) 61 (omega arith)))
-        (ap (λ (b : Bool). p.part.empty && b) (ne_eqb 0 (suc u) (λ z. omega arith)) ∙ and-false p.part.empty) ∙ or-false (is_last 0 x (suc u))
+        (ap (λ (b : Bool). p.empty && b) (ne_eqb 0 (suc u) (λ z. omega arith)) ∙ and-false p.empty) ∙ or-false (is_last 0 x (suc u))
 
     pub built_shown : graph_of_built made more ≡ graph_of x
     built_shown = λ t. record {

@@ -8,9 +8,9 @@ use Rattle.pattern.specs.Parts.{Part}
 use Rattle.pattern.specs.Positions.{positions, links_of, graph_of, pattern_graph}
 use Rattle.pattern.specs.Refusals.{pattern_refusal, refusal_of}
 use Rattle.pattern.specs.declared.Refusal.{Refusal}
+use Rattle.parsed.specs.declared.Parsed.{Parsed}
 use Rattle.parsed.specs.Parsed.{shape_of}
 use Rattle.parts.specs.Parsing.{Kept}
-use Rattle.parts.specs.declared.ParsedRows.{ParsedRows}
 
 -- the pattern s is built, with its links beyond the first in `more`
 pub record BuiltFrom (s more : List ℕ) (b : Built) : Type 0 where
@@ -24,6 +24,6 @@ pub record Reads (s more : List ℕ) (r : Result Built Refusal) : Type 0 where
   pub built : IfOk r (BuiltFrom s more)
 
 -- of the rows and the tables of any part of up to 60 positions and up to 256 links from one state to another, its graph is built
-pub record Builds (p : ParsedRows) (sets : List LetterSet) (credits : List ℕ) (r : Built) : Type 0 where
-  pub graph : (x : Part) (more : List ℕ) → Kept (shape_of x) p.rows more sets credits p.part → positions x ≤ 60 → ((u i : ℕ) → links_of x u i ≤ 256) → graph_of_built r more ≡ graph_of x
-  pub doubled : r.doubled ≡ p.part.doubled
+pub record Builds (p : Parsed) (rows : List ℕ) (sets : List LetterSet) (credits : List ℕ) (r : Built) : Type 0 where
+  pub graph : (x : Part) (more : List ℕ) → Kept (shape_of x) rows more sets credits p → positions x ≤ 60 → ((u i : ℕ) → links_of x u i ≤ 256) → graph_of_built r more ≡ graph_of x
+  pub doubled : r.doubled ≡ p.doubled

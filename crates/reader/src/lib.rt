@@ -6,7 +6,7 @@ ghost use Rattle.links.specs.Rows.{NoneCounted};
 ghost use Rattle.reader.specs.Read.{Reads, Builds};
 
 use graph::Built;
-use parts::ParsedRows;
+use parsed::Parsed;
 use pattern::Refusal;
 use set_table::Tables;
 
@@ -33,10 +33,9 @@ pub fn read(s: &[u8], more: &mut [u8; 3721]) -> Result<Built, Refusal>
         credits: [9; 61],
     };
     let p = parts::parse(s, &mut tables, more);
-    let part = p.part;
-    if !(part.good && part.at == s.len()) {
+    let Some((part, [])) = p.read else {
         return Err(Refusal::BrokenGrammar);
-    }
+    };
     if part.reversed {
         return Err(Refusal::ReversedRange);
     }
@@ -49,18 +48,17 @@ pub fn read(s: &[u8], more: &mut [u8; 3721]) -> Result<Built, Refusal>
     if part.n > MOST {
         return Err(Refusal::ManyPositions);
     }
-    let built = accepted(p, &tables);
+    let built = accepted(part, p.rows, &tables);
     Ok(built)
 }
 
 // A pattern that nothing refuses, built of its links and of the tables. The state 0, before any letter, gets its row, the firsts, and
 // is a last where the pattern can be empty.
-fn accepted(p: ParsedRows, tables: &Tables) -> Built
-    requires { (p.part.n ≤ 60) × (p.part.firsts < 2 ^ 61) × ((u : ℕ) → get_or p.rows u 0 < 2 ^ 61) }
-    ensures { Builds p tables.now.sets tables.now.credits result }
+fn accepted(part: Parsed, rows: [u64; 61], tables: &Tables) -> Built
+    requires { (part.n ≤ 60) × (part.firsts < 2 ^ 61) × ((u : ℕ) → get_or rows u 0 < 2 ^ 61) }
+    ensures { Builds part rows tables.now.sets tables.now.credits result }
 {
-    let part = p.part;
-    let mut follow = p.rows;
+    let mut follow = rows;
     follow[0] = part.firsts;
     Built {
         positions: part.n,

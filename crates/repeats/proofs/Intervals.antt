@@ -1,7 +1,7 @@
 -- An interval that was read after an atom: written out, it has the atom's copies. Where there is no room for them nothing is kept but
 -- that; where refusal 11 names it, the atom stays as it is. Assumes nothing.
 use mathlib.Core.Path.{◌≡◌, refl, sym, ap, ◌∙◌, subst}
-use mathlib.Core.Bool.{Bool, true, false, ◌||◌, not, or_self, true≢false, false≢true}
+use mathlib.Core.Bool.{Bool, true, false, ◌||◌, not, or_self}
 use mathlib.Core.List.{List, [], ◌∷◌, ◌++◌, append_assoc}
 use mathlib.Core.Logic.{⊎_elim}
 use Prim.Native.Nat.{ℕ, zero, suc, ◌+◌, ◌-◌, ◌*◌, ◌≤◌, ◌<◌, max}
@@ -9,22 +9,20 @@ use native.Mathlib.Nat.{add-zero, suc-mul}
 use native.Mathlib.Omega.{arith}
 use borrow.Author.Tests.{ltb-true, ltb-false}
 use lib.Dec.{ltb}
-use lib.ListN.{length, drop}
-use Rattle.std.specs.Prelude.{Option, Some, None, is_some, is_none}
+use lib.ListN.{length}
 use Rattle.basics.proofs.Tests.{by_test, or_parts, or_cases, if_yes, if_no, le_or_lt}
 use Rattle.alphabet.specs.Alphabet.{some_letter}
 use Rattle.set_table.specs.Tables.{Repeats}
 use Rattle.pattern.specs.Parts.{Atom, holds, Part, Bounds, out_of_bounds, written_out}
 use Rattle.pattern.proofs.Own.{some_position}
 use Rattle.pattern.proofs.Written.{in_bounds, written_refused}
-use Rattle.pattern.specs.Grammar.{Read, read}
 use Rattle.pattern.specs.Positions.{atoms, positions, links}
 use Rattle.pattern.specs.Refusals.{some_reversed, any_reversed, any_empty}
 use Rattle.links.specs.Rows.{Adds, Counts}
 use Rattle.parsed.specs.declared.Parsed.{Parsed}
 use Rattle.set_table.specs.declared.Tables.{Tables}
 use Rattle.parsed.specs.Tables.{Stored}
-use Rattle.parsed.specs.Parsed.{Shape, shape_of, Memory, memory, Keeps, Has, Stands}
+use Rattle.parsed.specs.Parsed.{Shape, shape_of, Memory, memory, Keeps, Has}
 use Rattle.parsed.proofs.Shapes.{owns_part}
 use Rattle.parsed.proofs.Joining.{any_both}
 use Rattle.chains.specs.Chains.{how_many, Chains}
@@ -36,13 +34,6 @@ use Rattle.repeats.proofs.Tables.{with, stored_copies}
 
 pub placed : (n : ℕ) (m m' : Memory) (p : Part) (r : Parsed) → n ≤ 61 → Has n m m' (shape_of p) r → Placed n r
 placed n m m' p r low h = let c = h.count in let s = some_position p in record { on = omega arith; cut = omega arith; some = λ l. omega arith }
-
--- without an upper bound
-pub is_endless : (o : Option ℕ) (endless : Bool) → is_some o ≡ not endless → endless ≡ is_none o
-is_endless None true e = refl
-is_endless None false e = absurd (false≢true e)
-is_endless (Some k) true e = absurd (true≢false e)
-is_endless (Some k) false e = refl
 
 -- how many copies there are, where a test says that the bounds are not named
 pub many : (b : Bounds) (k : ℕ) (named : Bool) → k ≡ how_many b → named ≡ out_of_bounds b → named ≡ false → (0 < k) × (k ≤ 255)
@@ -100,14 +91,14 @@ module _ (q : Part) where
 
 -- ---- what the result has
 
--- at another place, and with other marks
-abbrev pub changed : Parsed → Bool → ℕ → ℕ → Bool → Parsed
-changed p good at n named = record { good = good; at = at; n = n; empty = p.empty; firsts = p.firsts; lasts = p.lasts; reversed = p.reversed; hollow = p.hollow; misbounded = named; doubled = p.doubled }
+-- with other marks
+abbrev pub changed : Parsed → ℕ → Bool → Parsed
+changed p n named = record { n = n; empty = p.empty; firsts = p.firsts; lasts = p.lasts; reversed = p.reversed; hollow = p.hollow; misbounded = named; doubled = p.doubled }
 
-module _ (n : ℕ) (m now : Memory) (p : Parsed) (q : Part) (h : Has n m now (shape_of q) p) (good : Bool) (at : ℕ) where
+module _ (n : ℕ) (m now : Memory) (p : Parsed) (q : Part) (h : Has n m now (shape_of q) p) where
   -- an interval that refusal 11 names
-  pub has_misbounded : (b : Bounds) → out_of_bounds b ≡ true → Has n m now (shape_of (written_out b q)) (changed p good at p.n true)
-  has_misbounded b e = subst (λ (x : Part). Has n m now (shape_of x) (changed p good at p.n true)) (sym (written_refused b q e)) record {
+  pub has_misbounded : (b : Bounds) → out_of_bounds b ≡ true → Has n m now (shape_of (written_out b q)) (changed p p.n true)
+  has_misbounded b e = subst (λ (x : Part). Has n m now (shape_of x) (changed p p.n true)) (sym (written_refused b q e)) record {
     count = h.count;
     reversed = h.reversed;
     hollow = h.hollow;
@@ -153,14 +144,14 @@ module _ (n : ℕ) (m now : Memory) (p : Parsed) (q : Part) (h : Has n m now (sh
     named = h.misbounded ∙ sym (misbounded_chained q k)
 
     -- no room for the copies
-    pub has_many : 60 < n + number * positions q → Has n m now (shape_of (written_out b q)) (changed p good at 61 p.misbounded)
+    pub has_many : 60 < n + number * positions q → Has n m now (shape_of (written_out b q)) (changed p 61 p.misbounded)
     has_many over =
         let l : 60 < n + suc k * positions q = subst (λ (v : ℕ). 60 < n + v * positions q) with_first over in
-        as_written now (changed p good at 61 p.misbounded)
+        as_written now (changed p 61 p.misbounded)
         record { count = omega (arith, size); reversed = turned; hollow = hollowed; misbounded = named; keeps = λ f. absurd (omega (arith, size, l, f)); stores = λ f. absurd (omega (arith, size, l, f)) }
 
     -- room for them
-    module _ (w : ℕ) (rows' more' : List ℕ) (tables' : Tables) (r : Parsed) (room : n + number * w ≤ 60) (wide : p.n ≡ n + w) (s : Repeats (n + 1) (n + 1 + k * w) w now.tables tables') (ch : Chains w number b.lower b.endless now.rows now.more rows' more' (changed p good at p.n p.misbounded) r) where
+    module _ (w : ℕ) (rows' more' : List ℕ) (tables' : Tables) (r : Parsed) (room : n + number * w ≤ 60) (wide : p.n ≡ n + w) (s : Repeats (n + 1) (n + 1 + k * w) w now.tables tables') (ch : Chains w number b now.rows now.more rows' more' p r) where
       few : n + suc k * w ≤ 60
       few = subst (λ (v : ℕ). n + v * w ≤ 60) with_first room
 
@@ -190,15 +181,7 @@ module _ (n : ℕ) (m now : Memory) (p : Parsed) (q : Part) (h : Has n m now (sh
             keeps = λ f c.
                 let old = h.keeps first_few c in
                 subst (λ (x : Shape). Keeps n m (memory rows' more' tables') x r) (written q b k e is)
-                (ch.keeps n m tables' q b e are refl refl width wide c
+                (ch.keeps n m tables' q e are width wide c
                 record { empty = old.empty; firsts = old.firsts; lasts = old.lasts; adds = old.adds; counts = old.counts; none = old.none });
             stores = λ f. stored;
           }
-
--- ---- what the result stands for
-
-pub written_stands : (s : List ℕ) (from n : ℕ) (m now now' : Memory) (R : Read) (p r : Parsed) (b : Bounds) (at : ℕ) → Stands s from n m now R p → p.good ≡ true → p.at < at → at ≤ length s → r.good ≡ true → r.at ≡ at
-    → (Has n m now (shape_of R.part) p → Has n m now' (shape_of (written_out b R.part)) r) → Stands s from n m now' (read (written_out b R.part) (drop at s)) r
-written_stands s from n m now now' R p r b at w g on within f place has =
-    let v = w.gives g in
-    record { same = f; gives = λ _. record { on = let o = v.on in omega arith; within = omega arith; goes = ap (λ (k : ℕ). drop k s) (sym place); has = has v.has } }

@@ -1,96 +1,98 @@
 -- Each goal is a law of Parsing or Folding at what the callees ensure: in both loops something is read so far, one more is joined to
 -- it, and that was the last one or another follows. Assumes nothing.
+use Rattle.std.proofs.Common.{rules}
 use mathlib.Core.Path.{refl, sym, ◌∙◌}
-use Prim.Native.Nat.{◌+◌}
-use native.Mathlib.Nat.{add-zero}
+use Prim.Native.Nat.{ℕ}
+use Prim.Native.Char.{code}
 use native.Mathlib.Omega.{arith}
+use lib.ListN.{length}
+use borrow.Author.Tests.{ltb-true, eq-eqb, ne_eqb}
+use Rattle.pattern.specs.Grammar.{peek}
+use Rattle.places.proofs.Places.{text_after, none_first}
 use Rattle.parsed.specs.Parsed.{memory}
-use Rattle.parts.specs.Parsing.{Parses, atom_from}
-use Rattle.parts.proofs.Parsing.{parses_as, atom_letter, atom_open, piece_repeated, atom_placed}
-use Rattle.parts.proofs.Folding.{pieces, branches, begins, ends, goes_further}
+use Rattle.parts.specs.Parsing.{Parses}
+use Rattle.parts.proofs.Parsing.{parses_by, atom_from, open_reads, letter_reads, atom_breaks, atom_placed, piece_breaks, piece_gives}
+use Rattle.parts.proofs.Folding.{pieces, branches, begins, breaks, ends, shorter, goes_further}
 use Rattle.parts.proofs.+branch_pattern_piece.Goals as goal
-use Rattle.parts.proofs.+branch_pattern_piece.Goals.{branch-then-byte_at-eq40, branch-else-byte_at-eq40}
+use Rattle.parts.proofs.+branch_pattern_piece.Goals.{branch-Joined-left-lt1, branch-in-40, branch-in_default, branch-in_default-via-then-left-lt1, branch-in_default-via-else-left-lt1+in_default-1, pattern-in_default-next, pattern-in_Some-next+in_default, pattern-in_default-via-then-rest-lt1, pattern-in_default-via-else-rest-lt1+in_default-1}
 
 -- ---- a branch: what comes next is an atom, a pattern in `( )` or a lettered one
 
-pub branch-loop-all-init : goal.branch-loop-all-init
-branch-loop-all-init t c = begins pieces _ _ _ _ c.requires _ c.nothing-so_far.ensures
+-- where the two ways join
+read : (t : ℕ) (c : branch-Joined-left-lt1 t)
+    → Parses atom_from 0 c.loop-left.left.now c.loop-left.so_far.n (memory c.loop-left.rows c.loop-left.more c.loop-left.tables) (memory c.if-left-lt1.rows c.if-left-lt1.more c.if-left-lt1.tables) c.if-left-lt1.read
+read t c =
+    let loop = c.loop-left in
+    let left = loop.left.now in
+    let then = memory loop.rows loop.more loop.tables in
+    elim c.if-left-lt1.branch [
+      | branch-in-40 w ↦
+          parses_by atom_from 0 left loop.so_far.n then w.rows-is w.more-is w.tables-is w.read-is
+          (open_reads left _ (text_after 1 _) (omega (arith, w.in-40.len_at_least)) (search rules) _ _ _ _ w.piece-p.ensures)
+      | branch-in_default w ↦
+          parses_by atom_from 0 left loop.so_far.n then w.rows-is w.more-is w.tables-is w.read-is
+          (letter_reads left
+          (elim w.in_default.branch [
+            | branch-in_default-via-then-left-lt1 v ↦ none_first left _ (ltb-true (length left) 1 (search rules))
+            | branch-in_default-via-else-left-lt1+in_default-1 v ↦ search rules
+          ]) _ _ _ _ (w.letter-read.ensures loop.rows loop.more))
+    ]
 
-pub branch-repeat-next-requires : goal.branch-repeat-next-requires
-branch-repeat-next-requires t c =
-    let loop = c.loop-all in
-    let join = c.if-byte_at-eq40 in
-    let then = memory loop.all loop.more loop.tables in
-    let atom : Parses atom_from 0 c.args.s.now loop.so_far.at loop.so_far.n then (memory join.all join.more join.tables) join.atom =
-    elim join.branch [
-      | branch-then-byte_at-eq40 w ↦ parses_as atom_from 0 c.args.s.now loop.so_far.at loop.so_far.n then w.all-is w.more-is w.tables-is w.atom-is w.piece-p.ensures
-      | branch-else-byte_at-eq40 w ↦
-          parses_as atom_from 0 c.args.s.now loop.so_far.at loop.so_far.n then w.all-is w.more-is w.tables-is w.atom-is
-          (atom_letter c.args.s.now loop.so_far.at loop.so_far.n then _ _ (λ e. w.if-byte_at-eq40.false (c.byte_at.ensures ∙ e)) (w.letter-atom.ensures loop.all loop.more))
-    ] in
-    atom_placed _ _ _ _ _ _ atom loop.invariant.few
+pub branch-loop-left-init : goal.branch-loop-left-init
+branch-loop-left-init t c = begins pieces _ _ _ c.requires _ c.nothing-so_far.ensures
+
+pub branch-returns-in_err-atom : goal.branch-returns-in_err-atom
+branch-returns-in_err-atom t c =
+    let read = read t (goal.at.branch-returns-in_err-atom t c).Joined-left-lt1 in
+    rw c.from_residual.ensures (breaks pieces _ _ _ _ _ _ c.loop-left.invariant (atom_breaks _ (rw c.in_err-atom.was at read)))
+
+pub branch-repeat-requires : goal.branch-repeat-requires
+branch-repeat-requires t c = atom_placed _ _ _ _ _ _ (rw c.in_ok-atom.was at (read t (goal.at.branch-repeat-requires t c).Joined-left-lt1)) c.loop-left.invariant.few
+
+pub branch-returns-in_err-next : goal.branch-returns-in_err-next
+branch-returns-in_err-next t c =
+    let atom = rw c.in_ok-atom.was at (read t (goal.at.branch-returns-in_err-next t c).Joined-left-lt1) in
+    rw c.from_residual-in_err-next.ensures (breaks pieces _ _ _ _ _ _ c.loop-left.invariant (piece_breaks _ _ _ _ _ _ atom c.in_err-next.ensures))
 
 pub branch-returns-then-not-goes_on : goal.branch-returns-then-not-goes_on
 branch-returns-then-not-goes_on t c =
-    let loop = c.loop-all in
-    let join = c.if-byte_at-eq40 in
-    let then = memory loop.all loop.more loop.tables in
-    let atom : Parses atom_from 0 c.args.s.now loop.so_far.at loop.so_far.n then (memory join.all join.more join.tables) join.atom =
-    elim join.branch [
-      | branch-then-byte_at-eq40 w ↦ parses_as atom_from 0 c.args.s.now loop.so_far.at loop.so_far.n then w.all-is w.more-is w.tables-is w.atom-is w.piece-p.ensures
-      | branch-else-byte_at-eq40 w ↦
-          parses_as atom_from 0 c.args.s.now loop.so_far.at loop.so_far.n then w.all-is w.more-is w.tables-is w.atom-is
-          (atom_letter c.args.s.now loop.so_far.at loop.so_far.n then _ _ (λ e. w.if-byte_at-eq40.false (c.byte_at.ensures ∙ e)) (w.letter-atom.ensures loop.all loop.more))
-    ] in
-    ends pieces _ _ _ _ _ _ _ _ _ _ loop.invariant (piece_repeated _ _ _ _ _ _ atom _ _ c.repeat-next.ensures) (c.join-so_far.ensures, refl) (sym c.goes_on.ensures ∙ c.if-not-goes_on.true)
+    let atom = rw c.in_ok-atom.was at (read t (goal.at.branch-returns-then-not-goes_on t c).Joined-left-lt1) in
+    ends pieces _ _ _ _ _ _ c.loop-left.invariant _ _ _ _ _ (piece_gives _ _ _ _ _ _ atom _ _ _ c.in_ok-next.ensures) (c.join-so_far.ensures, refl) (sym c.goes_on.ensures ∙ c.if-not-goes_on.true)
 
-pub branch-loop-all-smaller : goal.branch-loop-all-smaller
-branch-loop-all-smaller t c =
-    let loop = c.loop-all in
-    let join = c.if-byte_at-eq40 in
-    let then = memory loop.all loop.more loop.tables in
-    let atom : Parses atom_from 0 c.args.s.now loop.so_far.at loop.so_far.n then (memory join.all join.more join.tables) join.atom =
-    elim join.branch [
-      | branch-then-byte_at-eq40 w ↦ parses_as atom_from 0 c.args.s.now loop.so_far.at loop.so_far.n then w.all-is w.more-is w.tables-is w.atom-is w.piece-p.ensures
-      | branch-else-byte_at-eq40 w ↦
-          parses_as atom_from 0 c.args.s.now loop.so_far.at loop.so_far.n then w.all-is w.more-is w.tables-is w.atom-is
-          (atom_letter c.args.s.now loop.so_far.at loop.so_far.n then _ _ (λ e. w.if-byte_at-eq40.false (c.byte_at.ensures ∙ e)) (w.letter-atom.ensures loop.all loop.more))
-    ] in
-    let goes = goes_further pieces _ _ _ _ _ _ _ _ _ _ loop.invariant (piece_repeated _ _ _ _ _ _ atom _ _ c.repeat-next.ensures) (c.join-so_far.ensures, refl) c.join-so_far.result.at (sym (add-zero c.join-so_far.result.at)) (sym c.goes_on.ensures ∙ c.if-not-goes_on.false) in
-    omega (arith, goes.1, goes.2)
+pub branch-loop-left-smaller : goal.branch-loop-left-smaller
+branch-loop-left-smaller t c =
+    let atom = rw c.in_ok-atom.was at (read t (goal.at.branch-loop-left-smaller t c).Joined-left-lt1) in
+    shorter pieces _ _ _ _ _ _ c.loop-left.invariant _ _ _ _ _ (piece_gives _ _ _ _ _ _ atom _ _ _ c.in_ok-next.ensures) (c.join-so_far.ensures, refl) _ refl (sym c.goes_on.ensures ∙ c.if-not-goes_on.false)
 
-pub branch-loop-all-preserved : goal.branch-loop-all-preserved
-branch-loop-all-preserved t c =
-    let loop = c.loop-all in
-    let join = c.if-byte_at-eq40 in
-    let then = memory loop.all loop.more loop.tables in
-    let atom : Parses atom_from 0 c.args.s.now loop.so_far.at loop.so_far.n then (memory join.all join.more join.tables) join.atom =
-    elim join.branch [
-      | branch-then-byte_at-eq40 w ↦ parses_as atom_from 0 c.args.s.now loop.so_far.at loop.so_far.n then w.all-is w.more-is w.tables-is w.atom-is w.piece-p.ensures
-      | branch-else-byte_at-eq40 w ↦
-          parses_as atom_from 0 c.args.s.now loop.so_far.at loop.so_far.n then w.all-is w.more-is w.tables-is w.atom-is
-          (atom_letter c.args.s.now loop.so_far.at loop.so_far.n then _ _ (λ e. w.if-byte_at-eq40.false (c.byte_at.ensures ∙ e)) (w.letter-atom.ensures loop.all loop.more))
-    ] in
-    (goes_further pieces _ _ _ _ _ _ _ _ _ _ loop.invariant (piece_repeated _ _ _ _ _ _ atom _ _ c.repeat-next.ensures) (c.join-so_far.ensures, refl) c.join-so_far.result.at (sym (add-zero c.join-so_far.result.at)) (sym c.goes_on.ensures ∙ c.if-not-goes_on.false)).0
+pub branch-loop-left-preserved : goal.branch-loop-left-preserved
+branch-loop-left-preserved t c =
+    let atom = rw c.in_ok-atom.was at (read t (goal.at.branch-loop-left-preserved t c).Joined-left-lt1) in
+    goes_further pieces _ _ _ _ _ _ c.loop-left.invariant _ _ _ _ _ (piece_gives _ _ _ _ _ _ atom _ _ _ c.in_ok-next.ensures) (c.join-so_far.ensures, refl) _ refl (sym c.goes_on.ensures ∙ c.if-not-goes_on.false)
 
 -- ---- a pattern
 
-pub pattern-loop-b-init : goal.pattern-loop-b-init
-pattern-loop-b-init t c = begins branches _ _ _ _ c.requires _ c.nothing-so_far.ensures
+pub pattern-loop-next-init : goal.pattern-loop-next-init
+pattern-loop-next-init t c = begins branches _ _ _ c.requires _ c.nothing-so_far.ensures
 
-pub pattern-returns-then-not-is_bar : goal.pattern-returns-then-not-is_bar
-pattern-returns-then-not-is_bar t c =
-    ends branches _ _ _ _ _ _ _ _ _ _ c.loop-b.invariant c.branch-b.ensures (c.either-so_far.ensures, refl) (sym c.is_bar.ensures ∙ c.if-not-is_bar.true)
+pub pattern-returns : goal.pattern-returns
+pattern-returns t c =
+    elim c.match-branch.branch [
+      | pattern-in_default-next w ↦ rw w.read-is (breaks branches _ _ _ _ _ _ c.loop-next.invariant w.in_default-next.ensures)
+      | pattern-in_Some-next+in_default w ↦
+          let rest = w.in_Some-next.rest.now in
+          rw w.read-is
+          (ends branches _ _ _ _ _ _ c.loop-next.invariant _ _ _ _ _ w.in_Some-next.ensures (w.either-so_far.ensures, refl)
+          (ne_eqb (peek rest) (code "|")
+          (elim w.in_default.branch [
+            | pattern-in_default-via-then-rest-lt1 v ↦ none_first rest _ (ltb-true (length rest) 1 (search rules))
+            | pattern-in_default-via-else-rest-lt1+in_default-1 v ↦ search rules
+          ])))
+    ]
 
-pub pattern-loop-b-preserved : goal.pattern-loop-b-preserved
-pattern-loop-b-preserved t c =
-    let b = c.branch-b in
-    let e = c.either-so_far in
-    let bar = sym c.is_bar.ensures ∙ c.if-not-is_bar.false in
-    let then = memory b.result.rows b.new.more b.new.tables in
-    (goes_further branches _ _ _ _ _ then then _ _ _ c.loop-b.invariant b.ensures (e.ensures, refl) (e.result.at + 1) refl bar).0
+pub pattern-loop-next-smaller : goal.pattern-loop-next-smaller
+pattern-loop-next-smaller t c =
+    shorter branches _ _ _ _ _ _ c.loop-next.invariant _ _ _ _ _ c.in_Some-next.ensures (c.either-so_far.ensures, refl) _ (text_after 1 _) (eq-eqb (peek c.in_Some-next.rest.now) (code "|") (search rules))
 
--- ---- a piece that is a pattern in `( )`
-
-pub piece-returns : goal.piece-returns
-piece-returns t c = atom_open _ _ _ _ _ _ _ c.requires.1 c.pattern-p.ensures (c.closed-p.ensures _ _)
+pub pattern-loop-next-preserved : goal.pattern-loop-next-preserved
+pattern-loop-next-preserved t c =
+    goes_further branches _ _ _ _ _ _ c.loop-next.invariant _ _ _ _ _ c.in_Some-next.ensures (c.either-so_far.ensures, refl) _ (text_after 1 _) (eq-eqb (peek c.in_Some-next.rest.now) (code "|") (search rules))

@@ -1,27 +1,27 @@
--- In both loops something is read so far. The measure is three for each byte left, and a rank, so that it falls where a callee begins
--- at the same place. Assumes nothing.
-use Rattle.std.proofs.Common.{◌+◌, ◌-◌, ◌*◌, length}
+-- In both loops something is read so far. The measure is three for each byte, and a rank, so that it falls where a callee begins with
+-- the same text. Assumes nothing.
+use Rattle.std.proofs.Common.{◌+◌, ◌*◌, length}
 use Rattle.parsed.specs.Parsed.{memory}
 use Rattle.parts.proofs.Folding.{pieces, branches, Sofar}
 use Rattle.parts.proofs.+branch_pattern_piece.Given as goal
 
 abbrev pub decreases-branch : goal.decreases-branch
-decreases-branch l = 3 * (length l.s.now - l.at) + 1
+decreases-branch l = 3 * length l.text.now + 1
 
 abbrev pub decreases-pattern : goal.decreases-pattern
-decreases-pattern l = 3 * (length l.s.now - l.at) + 2
+decreases-pattern l = 3 * length l.text.now + 2
 
 abbrev pub decreases-piece : goal.decreases-piece
-decreases-piece l = 3 * (length l.s.now - l.at)
+decreases-piece l = 3 * length l.text.now + 3
 
-abbrev pub invariant-branch-loop-all : goal.invariant-branch-loop-all
-invariant-branch-loop-all l = Sofar pieces l.s l.at l.n (memory l.initial.all l.initial.more l.initial.tables) (memory l.all l.more l.tables) l.so_far
+abbrev pub invariant-branch-loop-left : goal.invariant-branch-loop-left
+invariant-branch-loop-left l = Sofar pieces l.text l.n (memory l.initial.rows l.initial.more l.initial.tables) l.left (memory l.rows l.more l.tables) l.so_far
 
-abbrev pub decreases-branch-loop-all : goal.decreases-branch-loop-all
-decreases-branch-loop-all l = length l.s - l.so_far.at
+abbrev pub decreases-branch-loop-left : goal.decreases-branch-loop-left
+decreases-branch-loop-left l = length l.left
 
-abbrev pub invariant-pattern-loop-b : goal.invariant-pattern-loop-b
-invariant-pattern-loop-b l = Sofar branches l.s l.at l.n (memory l.initial.all l.initial.more l.initial.tables) (memory l.all l.more l.tables) l.so_far
+abbrev pub invariant-pattern-loop-next : goal.invariant-pattern-loop-next
+invariant-pattern-loop-next l = Sofar branches l.text l.n (memory l.initial.all l.initial.more l.initial.tables) l.left (memory l.all l.more l.tables) l.so_far
 
-abbrev pub decreases-pattern-loop-b : goal.decreases-pattern-loop-b
-decreases-pattern-loop-b l = length l.s - l.so_far.at
+abbrev pub decreases-pattern-loop-next : goal.decreases-pattern-loop-next
+decreases-pattern-loop-next l = length l.left

@@ -10,17 +10,17 @@ use Rattle.reader.proofs.accepted.Goals as goal
 
 pub invariant_of-result : goal.invariant_of-result
 invariant_of-result c =
-    let p = c.args.p in
-    let rows : length p.rows ≡ 61 = search rules in
-    record { few = c.requires.0; within = first_few p.rows p.part.firsts (omega arith) c.requires.1 c.requires.2 }
+    let start = c.args in
+    let long : length start.rows ≡ 61 = search rules in
+    record { few = c.requires.0; within = first_few start.rows start.part.firsts (omega arith) c.requires.1 c.requires.2 }
 
 pub returns : goal.returns
 returns c =
     let start = c.args in
-    let rows : length start.p.rows ≡ 61 = search rules in
+    let long : length start.rows ≡ 61 = search rules in
     record {
-      graph = built_shown start.p start.tables.now.sets start.tables.now.credits c.union_if.result (omega arith) c.requires.0
-          (first_few start.p.rows start.p.part.firsts (omega arith) c.requires.1 c.requires.2)
-          (λ j. c.union_if.ensures j ∙ ap (λ (x : Bool). has_bit start.p.part.lasts j || (start.p.part.empty && x)) (c.only.ensures j));
+      graph = built_shown start.part start.rows start.tables.now.sets start.tables.now.credits c.union_if.result (omega arith) c.requires.0
+          (first_few start.rows start.part.firsts (omega arith) c.requires.1 c.requires.2)
+          (λ j. c.union_if.ensures j ∙ ap (λ (x : Bool). has_bit start.part.lasts j || (start.part.empty && x)) (c.only.ensures j));
       doubled = refl;
     }

@@ -1,16 +1,14 @@
 -- Each way out: an interval that refusal 11 names, one without room for its copies, and the copies. Assumes nothing.
-use mathlib.Core.Path.{refl, sym, ◌∙◌}
+use mathlib.Core.Path.{sym, ◌∙◌}
 use Prim.Native.Nat.{◌-◌, ◌*◌, ◌≤◌}
 use native.Mathlib.Nat.{mul-le-mul}
 use native.Mathlib.Omega.{arith}
 use Rattle.bounds.specs.Bounds.{bounds_of}
-use Rattle.repeats.proofs.Intervals.{is_endless, many, room, no_room, has_misbounded, has_many, has_few, written_stands}
+use Rattle.repeats.proofs.Intervals.{many, room, no_room, has_misbounded, has_many, has_few}
 use Rattle.repeats.proofs.interval.Goals as goal
 
 pub returns-then-out_of_bounds : goal.returns-then-out_of_bounds
-returns-then-out_of_bounds c s from m R g w on within =
-    let i = c.args.i in
-    written_stands s from _ m _ _ R c.args.p _ (bounds_of i) c.args.at w g on within g refl (λ h. has_misbounded _ m _ _ R.part h c.args.p.good c.args.at (bounds_of i) (sym c.out_of_bounds.ensures ∙ c.if-out_of_bounds.true))
+returns-then-out_of_bounds c m q h = has_misbounded _ m _ _ q h (bounds_of c.args.i) (sym c.out_of_bounds.ensures ∙ c.if-out_of_bounds.true)
 
 pub overflow_mul-copies : goal.overflow_mul-copies
 overflow_mul-copies c =
@@ -20,21 +18,16 @@ overflow_mul-copies c =
     omega (arith, few)
 
 pub returns-then-p-n : goal.returns-then-p-n
-returns-then-p-n c s from m R g w on within =
+returns-then-p-n c m q h =
     let i = c.args.i in
     let copies = c.how_many-copies in
     let some = (many (bounds_of i) copies.result _ copies.ensures c.out_of_bounds.ensures c.if-out_of_bounds.false).0 in
-    written_stands s from _ m _ _ R c.args.p _ (bounds_of i) c.args.at w g on within g refl
-    (λ h. has_many _ m _ _ R.part h c.args.p.good c.args.at (bounds_of i) copies.result (sym c.out_of_bounds.ensures ∙ c.if-out_of_bounds.false) copies.ensures some (no_room _ _ copies.result c.requires some m _ R.part h c.if-p-n.true))
+    has_many _ m _ _ q h (bounds_of i) copies.result (sym c.out_of_bounds.ensures ∙ c.if-out_of_bounds.false) copies.ensures some (no_room _ _ copies.result c.requires some m _ q h c.if-p-n.true)
 
 pub returns : goal.returns
-returns c s from m R g w on within =
+returns c m q h =
     let i = c.args.i in
     let copies = c.how_many-copies in
     let some = (many (bounds_of i) copies.result _ copies.ensures c.out_of_bounds.ensures c.if-out_of_bounds.false).0 in
     let enough = room _ _ copies.result c.requires some c.if-p-n.false in
-    let made = rw (is_endless _ _ c.is_none.ensures) at c.chain.ensures in
-    written_stands s from _ m _ _ R c.args.p _ (bounds_of i) c.args.at w g on within (made.good ∙ g) made.place
-    (λ h.
-    has_few _ m _ _ R.part h c.args.p.good c.args.at (bounds_of i) copies.result (sym c.out_of_bounds.ensures ∙ c.if-out_of_bounds.false) copies.ensures some (c.args.p.n - c.args.n) _ _ _ _ enough.2 (omega (arith, c.requires.on))
-    c.repeat.ensures made)
+    has_few _ m _ _ q h (bounds_of i) copies.result (sym c.out_of_bounds.ensures ∙ c.if-out_of_bounds.false) copies.ensures some (c.args.p.n - c.args.n) _ _ _ _ enough.2 (omega (arith, c.requires.on)) c.repeat.ensures c.chain.ensures

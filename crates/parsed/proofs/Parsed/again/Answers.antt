@@ -5,7 +5,7 @@ use Rattle.pattern.specs.Parts.{is_misbounded}
 use Rattle.parsed.specs.declared.Repeat.{Repeat}
 use Rattle.parsed.specs.declared.Repeat.TheVariants.{Optional, Star, Plus}
 use Rattle.parsed.specs.Parsed.{rule_of}
-use Rattle.parsed.proofs.Standing.{again_stands}
+use Rattle.parsed.proofs.Joining.{has_again}
 use Rattle.parsed.proofs.Parsed.again.Goals as goal
 
 not_named : (k : Repeat) → is_misbounded (rule_of k) ≡ false
@@ -14,6 +14,6 @@ not_named Star = refl
 not_named Plus = refl
 
 pub returns : goal.returns
-returns c s at n m tables R g l w =
+returns c n m tables q h =
     let k = c.args.repeat in
-    again_stands s at n m _ _ tables R _ w (rule_of k) _ _ (sym c.skips.ensures) (sym c.loops.ensures) (not_named k) g l _ _ _ _ c.union_if-back.ensures c.link_again-second.ensures
+    has_again n m _ _ tables q _ h (rule_of k) _ _ (sym c.skips.ensures) (sym c.loops.ensures) (not_named k) _ _ _ _ c.union_if-back.ensures c.link_again-second.ensures
