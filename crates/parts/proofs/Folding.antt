@@ -10,13 +10,14 @@ use native.Mathlib.Nat.{lt-suc_self}
 use native.Mathlib.Omega.{arith}
 use lib.Dec.{eqb}
 use lib.ListN.{length, drop, length-drop}
-use Rattle.std.specs.Prelude.{if◌then◌else◌}
+use Rattle.std.specs.Prelude.{if◌then◌else◌, Some}
+use Rattle.std.specs.Borrow.{Bor}
 use Rattle.basics.proofs.Tests.{if_yes, if_no}
 use Rattle.pattern.specs.Parts.{Part, joined, either}
 use Rattle.pattern.specs.Grammar.{Read, read, broken, peek, goes_on, piece_from, branch_from, pattern_from}
 use Rattle.parsed.specs.declared.Parsed.{Parsed}
 use Rattle.parsed.specs.Parsed.{Shape, shape_of, Memory, memory, Has, Gives, nothing_read, Follows, Either, Joins}
-use Rattle.parts.specs.Parsing.{BrokenFrom, GivesFrom}
+use Rattle.parts.specs.Parsing.{Parses}
 use Rattle.parsed.proofs.Joining.{has_nothing, has_either, has_joined}
 use Rattle.parsed.proofs.Shapes.{joined_shape, either_shape, no_shape, joined_none, joined_assoc, either_none, either_assoc, Owns, owns_part, owns_none, owns_joined, owns_either}
 
@@ -149,7 +150,7 @@ module _ (F : Fold) where
 
     module _ (left : List ℕ) (now : Memory) (a : Parsed) (so : Sofar left now a) where
       -- none comes
-      pub breaks : BrokenFrom F.first F.rank left → BrokenFrom F.self (suc F.rank) text
+      pub breaks : ((f : ℕ) → 3 * length left + F.rank < f → (F.first f left).good ≡ false) → (f : ℕ) → 3 * length text + suc F.rank < f → (F.self f text).good ≡ false
       breaks e f h = let w = so.partly f h in w.rest.bad (none w.depth w.enough)
         where
           none : (d : ℕ) → 3 * length left + suc F.rank < d → (F.self d left).good ≡ false
@@ -160,19 +161,19 @@ module _ (F : Fold) where
               ap (λ (X : Read). X.good) (F.step d left ∙ if_no (both F.combine A (F.self d (drop F.skip A.rest))) A (A.good && F.test A.rest) (ap (λ (g : Bool). g && F.test A.rest) bad)) ∙ bad
 
       -- one more, b, is combined with a: that is r
-      module _ (now' now'' : Memory) (b r : Parsed) (rest : List ℕ) (goes : GivesFrom F.first F.rank left a.n now now' b rest) (combined : F.Combined now' now'' a b r) where
+      module _ (now' now'' : Memory) (b r : Parsed) (rest : Bor (List ℕ)) (goes : Parses F.first F.rank left a.n now now' (Some (b, rest))) (combined : F.Combined now' now'' a b r) where
         has : (x : Shape) → Owns x → Has n m now x a → (d : ℕ) → 3 * length left + F.rank < d → Has n m now'' (F.op x (shape_of (F.first d left).part)) r
         has x ox hx d l = F.has n m now now' now'' x (shape_of (F.first d left).part) a b r ox (owns_part (F.first d left).part) hx (goes d l).has combined
 
         -- the test is the code's
-        tested : (d : ℕ) → 3 * length left + F.rank < d → ((F.first d left).good && F.test (F.first d left).rest) ≡ F.test rest
+        tested : (d : ℕ) → 3 * length left + F.rank < d → ((F.first d left).good && F.test (F.first d left).rest) ≡ F.test rest.now
         tested d l = ap₂ (λ (g : Bool) (t : List ℕ). g && F.test t) (goes d l).good (goes d l).goes
 
         -- it was the last
-        pub ends : F.test rest ≡ false → GivesFrom F.self (suc F.rank) text n m now'' r rest
+        pub ends : F.test rest.now ≡ false → Parses F.self (suc F.rank) text n m now'' (Some (r, rest))
         ends e f h = let w = so.partly f h in last w.depth w.enough w.shape w.owns w.has w.rest
           where
-            last : (d : ℕ) → 3 * length left + suc F.rank < d → (x : Shape) → Owns x → Has n m now x a → Then x (F.self f text) (F.self d left) → Gives text n m now'' (F.self f text) r rest
+            last : (d : ℕ) → 3 * length left + suc F.rank < d → (x : Shape) → Owns x → Has n m now x a → Then x (F.self f text) (F.self d left) → Gives text n m now'' (F.self f text) r rest.now
             last zero l x ox hx t = absurd (omega arith)
             last (suc d) l x ox hx t =
                 let low : 3 * length left + F.rank < d = omega arith in
@@ -188,9 +189,9 @@ module _ (F : Fold) where
                 }
 
         -- or another comes, in the text that is left then
-        module _ (left' : List ℕ) (there : left' ≡ drop F.skip rest) (e : F.test rest ≡ true) where
+        module _ (left' : List ℕ) (there : left' ≡ drop F.skip rest.now) (e : F.test rest.now ≡ true) where
           pub shorter : length left' < length left
-          shorter = let on = (goes _ (lt-suc_self (3 * length left + F.rank))).on in omega (arith, ap length there, length-drop F.skip rest)
+          shorter = let on = (goes _ (lt-suc_self (3 * length left + F.rank))).on in omega (arith, ap length there, length-drop F.skip rest.now)
 
           next : (R : Read) (d : ℕ) → 3 * length left + suc F.rank < d → (x : Shape) → Owns x → Has n m now x a → Then x R (F.self d left) → (f : ℕ) → R ≡ F.self f text → Partly f left' now'' r
           next R zero l x ox hx t f k = absurd (omega arith)

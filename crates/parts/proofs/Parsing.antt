@@ -24,14 +24,21 @@ use Rattle.links.proofs.Counting.{none_linked, counts_alone}
 use Rattle.parsed.specs.declared.Parsed.{Parsed}
 use Rattle.set_table.specs.declared.Tables.{Tables}
 use Rattle.parsed.specs.Tables.{Stored}
-use Rattle.parsed.specs.Parsed.{Shape, Memory, memory, Has, Gives, Stands}
-use Rattle.parsed.proofs.Joining.{gives_as}
-use Rattle.repeats.specs.Repeats.{Placed}
+use Rattle.parsed.specs.Parsed.{Shape, Memory, memory, Has, Stands}
+use Rattle.repeats.specs.Repeats.{Placed, ReadsRepeat}
 use Rattle.repeats.proofs.Intervals.{placed}
 use Rattle.places.specs.Reads.{Reads}
-use Rattle.parts.specs.Parsing.{BrokenFrom, GivesFrom, Parses, closed_read, closed_from, Whole, IsPattern}
+use Rattle.parts.specs.Parsing.{Parses, closed_read, closed_from, Whole, IsPattern}
 
 -- ---- a result
+
+stands_as : (text : List ℕ) (n : ℕ) (m m' : Memory) (r : Option (Parsed × Bor (List ℕ))) {R Q : Read} → R ≡ Q → Stands text n m m' Q r → Stands text n m m' R r
+stands_as text n m m' r e w = subst (λ (X : Read). Stands text n m m' X r) (sym e) w
+
+-- what is parsed of a text's end is parsed of the text
+stands_from : (inside text : List ℕ) (n : ℕ) (m m' : Memory) (R : Read) (r : Option (Parsed × Bor (List ℕ))) → length inside ≤ length text → Stands inside n m m' R r → Stands text n m m' R r
+stands_from inside text n m m' R None l w = w
+stands_from inside text n m m' R (Some x) l w = record { good = w.good; goes = w.goes; on = let on = w.on in omega arith; has = w.has }
 
 -- the same by equal memory and an equal result
 pub parses_by : (F : ℕ → List ℕ → Read) (rank : ℕ) (text : List ℕ) (n : ℕ) (m : Memory) {rows more rows' more' : List ℕ} {tables tables' : Tables} {r r' : Option (Parsed × Bor (List ℕ))} → rows ≡ rows' → more ≡ more' → tables ≡ tables' → r ≡ r'
@@ -44,43 +51,17 @@ abbrev pub atom_from : ℕ → List ℕ → Read
 atom_from zero s = broken
 atom_from (suc f) s = if eqb (peek s) (code "(") then closed_from (suc f) (drop 1 s) else read_letter s
 
-module _ (left : List ℕ) where
-  module _ (inside : List ℕ) (there : inside ≡ drop 1 left) (some : 0 < length left) (e : peek left ≡ code "(") where
-    shorter : length inside < length left
-    shorter = omega (arith, ap length there, length-drop 1 left)
+module _ (left : List ℕ) (n : ℕ) (m now : Memory) (r : Option (Parsed × Bor (List ℕ))) where
+  pub atom_open : (inside : List ℕ) → inside ≡ drop 1 left → 0 < length left → peek left ≡ code "(" → Parses closed_from 3 inside n m now r → Parses atom_from 0 left n m now r
+  atom_open inside there some e w zero h = absurd (omega arith)
+  atom_open inside there some e w (suc f) h =
+      let l : length inside + 1 ≡ length left = omega (arith, ap length there, length-drop 1 left) in
+      stands_as left n m now r (if_yes (closed_from (suc f) (drop 1 left)) (read_letter left) (eqb (peek left) (code "(")) (eq-eqb (peek left) (code "(") e) ∙ ap (closed_from (suc f)) (sym there))
+      (stands_from inside left n m now (closed_from (suc f) inside) r (omega arith) (w (suc f) (omega arith)))
 
-    opened : (f : ℕ) → atom_from (suc f) left ≡ closed_from (suc f) inside
-    opened f = if_yes (closed_from (suc f) (drop 1 left)) (read_letter left) (eqb (peek left) (code "(")) (eq-eqb (peek left) (code "(") e) ∙ ap (closed_from (suc f)) (sym there)
-
-    open_breaks : BrokenFrom closed_from 3 inside → BrokenFrom atom_from 0 left
-    open_breaks w zero h = absurd (omega arith)
-    open_breaks w (suc f) h = ap (λ (X : Read). X.good) (opened f) ∙ w (suc f) (omega (arith, shorter))
-
-    open_gives : (n : ℕ) (m now : Memory) (p : Parsed) (rest : List ℕ) → GivesFrom closed_from 3 inside n m now p rest → GivesFrom atom_from 0 left n m now p rest
-    open_gives n m now p rest w zero h = absurd (omega arith)
-    open_gives n m now p rest w (suc f) h =
-        let v = w (suc f) (omega (arith, shorter)) in
-        gives_as (opened f) record { good = v.good; goes = v.goes; on = let on = v.on in omega (arith, shorter); has = v.has }
-
-    pub open_reads : (n : ℕ) (m now : Memory) (r : Option (Parsed × Bor (List ℕ))) → Parses closed_from 3 inside n m now r → Parses atom_from 0 left n m now r
-    open_reads n m now None w = open_breaks w
-    open_reads n m now (Some x) w = open_gives n m now x.0 x.1.now w
-
-  module _ (d : peek left ≡ code "(" → ⊥) where
-    lettered : (f : ℕ) → atom_from (suc f) left ≡ read_letter left
-    lettered f = if_no (closed_from (suc f) (drop 1 left)) (read_letter left) (eqb (peek left) (code "(")) (ne_eqb (peek left) (code "(") d)
-
-    letter_breaks : (read_letter left).good ≡ false → BrokenFrom atom_from 0 left
-    letter_breaks w zero h = absurd (omega arith)
-    letter_breaks w (suc f) h = ap (λ (X : Read). X.good) (lettered f) ∙ w
-
-    letter_gives : (n : ℕ) (m now : Memory) (p : Parsed) (rest : List ℕ) → Gives left n m now (read_letter left) p rest → GivesFrom atom_from 0 left n m now p rest
-    letter_gives n m now p rest w zero h = absurd (omega arith)
-    letter_gives n m now p rest w (suc f) h = gives_as (lettered f) w
-
-    pub letter_reads : (n : ℕ) (m now : Memory) (r : Option (Parsed × Bor (List ℕ))) → Stands left n m now (read_letter left) r → Parses atom_from 0 left n m now r
-    letter_reads n m now None w = letter_breaks w
-    letter_reads n m now (Some x) w = letter_gives n m now x.0 x.1.now w
+  pub atom_letter : (peek left ≡ code "(" → ⊥) → Stands left n m now (read_letter left) r → Parses atom_from 0 left n m now r
+  atom_letter d w zero h = absurd (omega arith)
+  atom_letter d w (suc f) h = stands_as left n m now r (if_no (closed_from (suc f) (drop 1 left)) (read_letter left) (eqb (peek left) (code "(")) (ne_eqb (peek left) (code "(") d)) w
 
 -- ---- a piece: an atom, repeated
 
@@ -112,18 +93,14 @@ repeated_bad R e = ap (λ (g : Bool). (by g).good) e ∙ e
         else R
 
 module _ (left : List ℕ) where
-  pub atom_breaks : BrokenFrom atom_from 0 left → BrokenFrom piece_from 0 left
-  atom_breaks w zero h = absurd (omega arith)
-  atom_breaks w (suc f) h = ap (λ (X : Read). X.good) (piece_step f left) ∙ repeated_bad (atom_from (suc f) left) (w (suc f) h)
+  pub no_piece : ((f : ℕ) → 3 * length left + 0 < f → (atom_from f left).good ≡ false) → (f : ℕ) → 3 * length left + 0 < f → (piece_from f left).good ≡ false
+  no_piece w zero h = absurd (omega arith)
+  no_piece w (suc f) h = ap (λ (X : Read). X.good) (piece_step f left) ∙ repeated_bad (atom_from (suc f) left) (w (suc f) h)
 
-  module _ (n : ℕ) (m now : Memory) (a : Parsed) (rest : List ℕ) (w : GivesFrom atom_from 0 left n m now a rest) where
-    pub piece_breaks : ((from : List ℕ) (m : Memory) (R : Read) → Gives from n m now R a rest → (repeated R).good ≡ false) → BrokenFrom piece_from 0 left
-    piece_breaks e zero h = absurd (omega arith)
-    piece_breaks e (suc f) h = ap (λ (X : Read). X.good) (piece_step f left) ∙ e left m (atom_from (suc f) left) (w (suc f) h)
-
-    pub piece_gives : (now' : Memory) (p : Parsed) (rest' : List ℕ) → ((from : List ℕ) (m : Memory) (R : Read) → Gives from n m now R a rest → Gives from n m now' (repeated R) p rest') → GivesFrom piece_from 0 left n m now' p rest'
-    piece_gives now' p rest' e zero h = absurd (omega arith)
-    piece_gives now' p rest' e (suc f) h = gives_as (piece_step f left) (e left m (atom_from (suc f) left) (w (suc f) h))
+  module _ (n : ℕ) (m now : Memory) (a : Parsed) (rest : Bor (List ℕ)) (w : Parses atom_from 0 left n m now (Some (a, rest))) where
+    pub piece_repeated : (now' : Memory) (r : Option (Parsed × Bor (List ℕ))) → ReadsRepeat rest.now n now now' a r → Parses piece_from 0 left n m now' r
+    piece_repeated now' r e zero h = absurd (omega arith)
+    piece_repeated now' r e (suc f) h = stands_as left n m now' r (piece_step f left) (e left m (atom_from (suc f) left) (w (suc f) h))
 
     -- the atom has the positions after n
     pub atom_placed : n ≤ 61 → Placed n a
@@ -153,8 +130,6 @@ has_whole k rows more more' tables tables' x r h st none = record {
 }
 
 pub all_parsed : (text rows more more' : List ℕ) (tables tables' : Tables) → Stored [] tables.sets tables.credits → NoneCounted more
-    → (r : Option (Parsed × Bor (List ℕ))) → Parses pattern_from 2 text 0 (memory (replicate 61 0) more tables) (memory rows more' tables') r → Reads r ((read_pattern text).good ≡ false) (IsPattern text rows more' tables')
-all_parsed text rows more more' tables tables' st none None w = w (suc (3 * suc (length text))) (omega arith)
-all_parsed text rows more more' tables tables' st none (Some x) w =
-    let v = w (suc (3 * suc (length text))) (omega arith) in
-    record { good = v.good; goes = v.goes; has = has_whole 61 _ _ _ _ _ _ _ v.has st none }
+    → (r : Option (Parsed × Bor (List ℕ))) → Stands text 0 (memory (replicate 61 0) more tables) (memory rows more' tables') (read_pattern text) r → Reads r ((read_pattern text).good ≡ false) (IsPattern text rows more' tables')
+all_parsed text rows more more' tables tables' st none None w = w
+all_parsed text rows more more' tables tables' st none (Some x) w = record { good = w.good; goes = w.goes; has = has_whole 61 _ _ _ _ _ _ _ w.has st none }

@@ -10,21 +10,13 @@ use Rattle.places.specs.Reads.{Reads}
 use Rattle.parsed.specs.declared.Parsed.{Parsed}
 use Rattle.set_table.specs.declared.Tables.{Tables}
 use Rattle.parsed.specs.Tables.{Stored}
-use Rattle.parsed.specs.Parsed.{Shape, shape_of, Memory, Gives}
+use Rattle.parsed.specs.Parsed.{Shape, shape_of, Memory, Stands}
 use Rattle.parts.specs.declared.ParsedRows.{ParsedRows}
 
--- what the function F of the grammar reads at the front of a text, at every depth above the measure by which the code ends: three for
--- each byte, and the rank. Nothing, as the grammar does not hold there
-abbrev pub BrokenFrom : (ℕ → List ℕ → Read) → ℕ → List ℕ → Type 0
-BrokenFrom F rank text = (f : ℕ) → 3 * length text + rank < f → (F f text).good ≡ false
-
--- or what p and the text after it stand for
-abbrev pub GivesFrom : (ℕ → List ℕ → Read) → ℕ → List ℕ → ℕ → Memory → Memory → Parsed → List ℕ → Type 0
-GivesFrom F rank text n m m' p rest = (f : ℕ) → 3 * length text + rank < f → Gives text n m m' (F f text) p rest
-
--- the result stands for it
+-- the result stands for what the function F of the grammar reads at the front of a text, at every depth above the measure by which the
+-- code ends: three for each byte, and the rank
 abbrev pub Parses : (ℕ → List ℕ → Read) → ℕ → List ℕ → ℕ → Memory → Memory → Option (Parsed × Bor (List ℕ)) → Type 0
-Parses F rank text n m m' r = Reads r (BrokenFrom F rank text) (GivesFrom F rank text n m m')
+Parses F rank text n m m' r = (f : ℕ) → 3 * length text + rank < f → Stands text n m m' (F f text) r
 
 -- ---- a pattern in `( )`
 

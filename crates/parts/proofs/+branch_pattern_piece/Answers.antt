@@ -3,6 +3,7 @@
 use Rattle.std.proofs.Common.{rules}
 use mathlib.Core.Path.{refl, sym, ◌∙◌}
 use Prim.Native.Nat.{ℕ}
+use Rattle.std.specs.Prelude.{Some, None}
 use Prim.Native.Char.{code}
 use native.Mathlib.Omega.{arith}
 use lib.ListN.{length}
@@ -11,7 +12,7 @@ use Rattle.pattern.specs.Grammar.{peek}
 use Rattle.places.proofs.Places.{text_after, none_first}
 use Rattle.parsed.specs.Parsed.{memory}
 use Rattle.parts.specs.Parsing.{Parses}
-use Rattle.parts.proofs.Parsing.{parses_by, atom_from, open_reads, letter_reads, atom_breaks, atom_placed, piece_breaks, piece_gives}
+use Rattle.parts.proofs.Parsing.{parses_by, atom_from, atom_open, atom_letter, no_piece, atom_placed, piece_repeated}
 use Rattle.parts.proofs.Folding.{pieces, branches, begins, breaks, ends, shorter, goes_further}
 use Rattle.parts.proofs.+branch_pattern_piece.Goals as goal
 use Rattle.parts.proofs.+branch_pattern_piece.Goals.{branch-Joined-left-lt1, branch-in-40, branch-in_default, branch-in_default-via-then-left-lt1, branch-in_default-via-else-left-lt1+in_default-1, pattern-in_default-next, pattern-in_Some-next+in_default, pattern-in_default-via-then-rest-lt1, pattern-in_default-via-else-rest-lt1+in_default-1}
@@ -28,14 +29,14 @@ read t c =
     elim c.if-left-lt1.branch [
       | branch-in-40 w ↦
           parses_by atom_from 0 left loop.so_far.n then w.rows-is w.more-is w.tables-is w.read-is
-          (open_reads left _ (text_after 1 _) (omega (arith, w.in-40.len_at_least)) (search rules) _ _ _ _ w.piece-p.ensures)
+          (atom_open left _ _ _ _ _ (text_after 1 _) (omega (arith, w.in-40.len_at_least)) (search rules) w.piece-p.ensures)
       | branch-in_default w ↦
           parses_by atom_from 0 left loop.so_far.n then w.rows-is w.more-is w.tables-is w.read-is
-          (letter_reads left
+          (atom_letter left _ _ _ _
           (elim w.in_default.branch [
             | branch-in_default-via-then-left-lt1 v ↦ none_first left _ (ltb-true (length left) 1 (search rules))
             | branch-in_default-via-else-left-lt1+in_default-1 v ↦ search rules
-          ]) _ _ _ _ (w.letter-read.ensures loop.rows loop.more))
+          ]) (w.letter-read.ensures loop.rows loop.more))
     ]
 
 pub branch-loop-left-init : goal.branch-loop-left-init
@@ -44,30 +45,30 @@ branch-loop-left-init t c = begins pieces _ _ _ c.requires _ c.nothing-so_far.en
 pub branch-returns-in_err-atom : goal.branch-returns-in_err-atom
 branch-returns-in_err-atom t c =
     let read = read t (goal.at.branch-returns-in_err-atom t c).Joined-left-lt1 in
-    rw c.from_residual.ensures (breaks pieces _ _ _ _ _ _ c.loop-left.invariant (atom_breaks _ (rw c.in_err-atom.was at read)))
+    rw c.from_residual.ensures (breaks pieces _ _ _ _ _ _ c.loop-left.invariant (no_piece _ (rw c.in_err-atom.was at read)))
 
 pub branch-repeat-requires : goal.branch-repeat-requires
-branch-repeat-requires t c = atom_placed _ _ _ _ _ _ (rw c.in_ok-atom.was at (read t (goal.at.branch-repeat-requires t c).Joined-left-lt1)) c.loop-left.invariant.few
+branch-repeat-requires t c = atom_placed _ _ _ _ _ c.in_ok-atom.rest (rw c.in_ok-atom.was at (read t (goal.at.branch-repeat-requires t c).Joined-left-lt1)) c.loop-left.invariant.few
 
 pub branch-returns-in_err-next : goal.branch-returns-in_err-next
 branch-returns-in_err-next t c =
     let atom = rw c.in_ok-atom.was at (read t (goal.at.branch-returns-in_err-next t c).Joined-left-lt1) in
-    rw c.from_residual-in_err-next.ensures (breaks pieces _ _ _ _ _ _ c.loop-left.invariant (piece_breaks _ _ _ _ _ _ atom c.in_err-next.ensures))
+    rw c.from_residual-in_err-next.ensures (breaks pieces _ _ _ _ _ _ c.loop-left.invariant (piece_repeated _ _ _ _ _ c.in_ok-atom.rest atom (memory c.repeat.new.rows c.repeat.new.more c.repeat.new.tables) None c.in_err-next.ensures))
 
 pub branch-returns-then-not-goes_on : goal.branch-returns-then-not-goes_on
 branch-returns-then-not-goes_on t c =
     let atom = rw c.in_ok-atom.was at (read t (goal.at.branch-returns-then-not-goes_on t c).Joined-left-lt1) in
-    ends pieces _ _ _ _ _ _ c.loop-left.invariant _ _ _ _ _ (piece_gives _ _ _ _ _ _ atom _ _ _ c.in_ok-next.ensures) (c.join-so_far.ensures, refl) (sym c.goes_on.ensures ∙ c.if-not-goes_on.true)
+    ends pieces _ _ _ _ _ _ c.loop-left.invariant _ _ _ _ c.in_ok-next.rest (piece_repeated _ _ _ _ _ c.in_ok-atom.rest atom _ (Some (c.in_ok-next.next, c.in_ok-next.rest)) c.in_ok-next.ensures) (c.join-so_far.ensures, refl) (sym c.goes_on.ensures ∙ c.if-not-goes_on.true)
 
 pub branch-loop-left-smaller : goal.branch-loop-left-smaller
 branch-loop-left-smaller t c =
     let atom = rw c.in_ok-atom.was at (read t (goal.at.branch-loop-left-smaller t c).Joined-left-lt1) in
-    shorter pieces _ _ _ _ _ _ c.loop-left.invariant _ _ _ _ _ (piece_gives _ _ _ _ _ _ atom _ _ _ c.in_ok-next.ensures) (c.join-so_far.ensures, refl) _ refl (sym c.goes_on.ensures ∙ c.if-not-goes_on.false)
+    shorter pieces _ _ _ _ _ _ c.loop-left.invariant _ _ _ _ c.in_ok-next.rest (piece_repeated _ _ _ _ _ c.in_ok-atom.rest atom _ (Some (c.in_ok-next.next, c.in_ok-next.rest)) c.in_ok-next.ensures) (c.join-so_far.ensures, refl) _ refl (sym c.goes_on.ensures ∙ c.if-not-goes_on.false)
 
 pub branch-loop-left-preserved : goal.branch-loop-left-preserved
 branch-loop-left-preserved t c =
     let atom = rw c.in_ok-atom.was at (read t (goal.at.branch-loop-left-preserved t c).Joined-left-lt1) in
-    goes_further pieces _ _ _ _ _ _ c.loop-left.invariant _ _ _ _ _ (piece_gives _ _ _ _ _ _ atom _ _ _ c.in_ok-next.ensures) (c.join-so_far.ensures, refl) _ refl (sym c.goes_on.ensures ∙ c.if-not-goes_on.false)
+    goes_further pieces _ _ _ _ _ _ c.loop-left.invariant _ _ _ _ c.in_ok-next.rest (piece_repeated _ _ _ _ _ c.in_ok-atom.rest atom _ (Some (c.in_ok-next.next, c.in_ok-next.rest)) c.in_ok-next.ensures) (c.join-so_far.ensures, refl) _ refl (sym c.goes_on.ensures ∙ c.if-not-goes_on.false)
 
 -- ---- a pattern
 
@@ -81,7 +82,7 @@ pattern-returns t c =
       | pattern-in_Some-next+in_default w ↦
           let rest = w.in_Some-next.rest.now in
           rw w.read-is
-          (ends branches _ _ _ _ _ _ c.loop-next.invariant _ _ _ _ _ w.in_Some-next.ensures (w.either-so_far.ensures, refl)
+          (ends branches _ _ _ _ _ _ c.loop-next.invariant _ _ _ _ w.in_Some-next.rest w.in_Some-next.ensures (w.either-so_far.ensures, refl)
           (ne_eqb (peek rest) (code "|")
           (elim w.in_default.branch [
             | pattern-in_default-via-then-rest-lt1 v ↦ none_first rest _ (ltb-true (length rest) 1 (search rules))
@@ -91,8 +92,8 @@ pattern-returns t c =
 
 pub pattern-loop-next-smaller : goal.pattern-loop-next-smaller
 pattern-loop-next-smaller t c =
-    shorter branches _ _ _ _ _ _ c.loop-next.invariant _ _ _ _ _ c.in_Some-next.ensures (c.either-so_far.ensures, refl) _ (text_after 1 _) (eq-eqb (peek c.in_Some-next.rest.now) (code "|") (search rules))
+    shorter branches _ _ _ _ _ _ c.loop-next.invariant _ _ _ _ c.in_Some-next.rest c.in_Some-next.ensures (c.either-so_far.ensures, refl) _ (text_after 1 _) (eq-eqb (peek c.in_Some-next.rest.now) (code "|") (search rules))
 
 pub pattern-loop-next-preserved : goal.pattern-loop-next-preserved
 pattern-loop-next-preserved t c =
-    goes_further branches _ _ _ _ _ _ c.loop-next.invariant _ _ _ _ _ c.in_Some-next.ensures (c.either-so_far.ensures, refl) _ (text_after 1 _) (eq-eqb (peek c.in_Some-next.rest.now) (code "|") (search rules))
+    goes_further branches _ _ _ _ _ _ c.loop-next.invariant _ _ _ _ c.in_Some-next.rest c.in_Some-next.ensures (c.either-so_far.ensures, refl) _ (text_after 1 _) (eq-eqb (peek c.in_Some-next.rest.now) (code "|") (search rules))
