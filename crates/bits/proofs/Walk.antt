@@ -1,13 +1,11 @@
 -- A loop that walks a set, `for t in members(set) { .. }`, at a turn and at its end. At a turn the value over what is left is the
 -- least member's, joined with the value over the rest. Assumes nothing.
-use mathlib.Core.Path.{◌≡◌, sym, ◌∙◌, subst}
-use mathlib.Core.Bool.{Bool, true, false, not, ◌&&◌, ◌||◌, true≢false}
-use mathlib.Core.List.{◌∷◌}
+use mathlib.Core.Path.{◌≡◌}
+use mathlib.Core.Bool.{Bool, true, false, ◌&&◌, ◌||◌}
 use Prim.Native.Nat.{ℕ, ◌+◌, ◌^◌, ◌<◌, max}
 use lib.Dec.{eqb}
-use Rattle.basics.specs.Folds.{fold_if, sum_if, most_if, any_if, list_if}
-use Rattle.basics.proofs.Tests.{and_parts, by_equal}
-use Rattle.basics.proofs.Folds.{less_other, fold_none, sum_least, most_least, any_least, list_least, any_one}
+use Rattle.basics.specs.Folds.{fold_if, sum_if, most_if, any_if}
+use Rattle.basics.proofs.Folds.{fold_none, sum_least, most_least, any_least, any_one}
 use Rattle.bits.specs.Bits.{has_bit, Taken}
 use Rattle.bits.proofs.Laws.{member_below}
 
@@ -22,10 +20,7 @@ module _ (k m t r : ℕ) (h : m < 2 ^ k) (s : Taken has_bit (λ (m : ℕ). m) m 
   pub any_turn : (f : ℕ → Bool) → any_if (has_bit m) f k ≡ (f t || any_if (has_bit r) f k)
   any_turn f = any_least (has_bit m) (has_bit r) t s.others s.least.here s.least.none f k (member_below k m t h s.least.here)
 
-  pub list_turn : list_if (has_bit m) k ≡ t ∷ list_if (has_bit r) k
-  list_turn = list_least (has_bit m) (has_bit r) t s.others s.least.here s.least.none k (member_below k m t h s.least.here)
-
--- the end: nothing is left, for each of the four
+-- the end: nothing is left, for each of the three
 pub walk_end : {A : Type 0} (none : A) (join : A → A → A) (f : ℕ → A) (k m : ℕ) → ((i : ℕ) → has_bit m i ≡ false) → fold_if none join (has_bit m) f k ≡ none
 walk_end none join f k m z = fold_none none join (has_bit m) f k (λ i l. z i)
 
@@ -33,20 +28,7 @@ walk_end none join f k m z = fold_none none join (has_bit m) f k (λ i l. z i)
 pub kept : (k m : ℕ) → m < 2 ^ k → (f : ℕ → Bool) (j : ℕ) → any_if (has_bit m) (λ i. f i && eqb i j) k ≡ (has_bit m j && f j)
 kept k m h f j = any_one (has_bit m) f k j (member_below k m j h)
 
--- ---- a loop that looks for a member: those of m that are not left have Q
-
+-- a loop that looks for a member: those of m that are not left have Q
 pub record Passed (m left : ℕ) (Q : ℕ → Type 0) : Type 0 where
   pub within : (j : ℕ) → has_bit left j ≡ true → has_bit m j ≡ true
   pub done : (j : ℕ) → has_bit m j ≡ true → has_bit left j ≡ false → Q j
-
-pub passed_start : (m : ℕ) (Q : ℕ → Type 0) → Passed m m Q
-passed_start m Q = record { within = λ j h. h; done = λ j h k. absurd (true≢false (sym h ∙ k)) }
-
-pub passed_turn : (m left t r : ℕ) (Q : ℕ → Type 0) → Passed m left Q → Taken has_bit (λ (m : ℕ). m) left t r → Q t → Passed m r Q
-passed_turn m left t r Q p s q = record {
-  within = λ j h. p.within j (and_parts (has_bit left j) (not (eqb t j)) (sym (s.others j) ∙ h)).0;
-  done = λ j h k. by_equal t j (λ z. subst Q z q) (λ d. p.done j h (sym (less_other (has_bit left) (has_bit r) t s.others j d) ∙ k));
-}
-
-pub passed_end : (m left : ℕ) (Q : ℕ → Type 0) → Passed m left Q → ((i : ℕ) → has_bit left i ≡ false) → (j : ℕ) → has_bit m j ≡ true → Q j
-passed_end m left Q p z j h = p.done j h (z j)

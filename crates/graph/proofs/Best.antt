@@ -3,11 +3,11 @@
 use mathlib.Core.Path.{◌≡◌, refl, sym, ap, ap₂, ◌∙◌, subst}
 use mathlib.Core.Logic.{⊎_elim}
 use mathlib.Core.Bool.{Bool, true, false, false≢true}
-use Prim.Native.Nat.{ℕ, zero, suc, ◌+◌, ◌-◌, ◌*◌, ◌≤◌, max}
+use Prim.Native.Nat.{ℕ, zero, suc, ◌+◌, ◌*◌, ◌≤◌, max}
 use native.Mathlib.Nat.{mul-add}
 use native.Mathlib.Omega.{arith}
 use lib.Dec.{le→leb}
-use lib.IntN.{ℤ, pos, negsuc, sub_ℕ, neg_ℤ, nat_abs, ◌+ℤ◌, +ℤ_assoc, +ℤ_idl, pos-ne-negsuc}
+use lib.IntN.{ℤ, pos, negsuc, sub_ℕ, nat_abs, ◌+ℤ◌, +ℤ_assoc, +ℤ_idl, pos-ne-negsuc}
 use lib.Signed.{◌≤ℤ◌, le_z_yes}
 use Rattle.basics.proofs.Tests.{le_or_lt}
 use Rattle.basics.proofs.Folds.{max_none, max_comm, max_assoc}
@@ -164,14 +164,6 @@ pub best_sums : (n x y : ℕ) → best_sum n (max x y) ≡ better (best_sum n x)
 best_sums n zero y = ap (best_sum n) (max_comm 0 y ∙ max_none y)
 best_sums n (suc x) zero = ap (best_sum n) (max_none (suc x))
 best_sums n (suc x) (suc y) = let e : max (suc x) (suc y) ≡ suc (max x y) = omega arith in ap (best_sum n) e ∙ sym (ap earns (sub_greater (9 * n) x y))
-
--- a credit that is given, and one that is taken off
-pub lowered_on : (k : ℕ) → lowered 1 (9 + k) ≡ pos k
-lowered_on k = sub_pos (9 + k) 9 (omega arith) ∙ ap pos (omega arith)
-
-pub lowered_off : (k : ℕ) → k ≤ 9 → lowered 1 (9 - k) ≡ neg_ℤ (pos k)
-lowered_off zero l = refl
-lowered_off (suc k) l = sub_neg (9 - suc k) 9 (omega arith) ∙ ap negsuc (omega arith)
 
 -- a credit from -9 to 9 is at most 18 when raised
 pub raised_low : (x : ℕ) → nat_abs (lowered 1 x) ≤ 9 → x ≤ 18

@@ -42,11 +42,6 @@ not_several zero e = zero-le
 not_several (suc zero) e = le_refl 1
 not_several (suc (suc n)) e = absurd (true≢false e)
 
-pub few_not : (n : ℕ) → n ≤ 1 → several n ≡ false
-few_not zero l = refl
-few_not (suc zero) l = refl
-few_not (suc (suc n)) l = absurd (omega arith)
-
 pub some_plus : (a b : ℕ) → some (a + b) ≡ (some a || some b)
 some_plus zero b = ap some (zero-add b)
 some_plus (suc a) b = of_some (suc a + b) (omega arith)

@@ -1,30 +1,26 @@
 -- The order of the letters: what the first letter of a set is, how a range decides it, and the sets of the ranges. In each word a range
 -- of codes below 128 is a run of bits. Assumes nothing.
-use mathlib.Core.Path.{◌≡◌, sym, ap, ap₂, ◌∙◌}
+use mathlib.Core.Path.{◌≡◌, refl, sym, ap, ◌∙◌}
 use mathlib.Core.Logic.{⊎_elim}
-use mathlib.Core.Bool.{Bool, true, false, not, ◌&&◌, true≢false, false≢true}
+use mathlib.Core.Bool.{Bool, true, false, not, ◌&&◌, true≢false}
 use mathlib.Core.List.{List, [], ◌∷◌}
-use Prim.Native.Nat.{ℕ, zero, suc, ◌+◌, ◌-◌, ◌^◌, ◌≤◌, ◌<◌, min}
-use native.Mathlib.Nat.{pow-le-pow_right}
+use Prim.Native.Nat.{ℕ, zero, suc, ◌+◌, ◌-◌, ◌^◌, ◌≤◌, ◌<◌}
 use native.Mathlib.Omega.{arith}
-use lib.Dec.{leb, ltb}
-use lib.Bits.{bit_and}
-use borrow.Author.Tests.{leb-true, ltb-true, le-leb, lt-ltb}
-use Rattle.basics.proofs.Tests.{and_parts, and_of, same_test, not_less, by_test, if_yes, if_no, if_either, le_or_lt}
+use lib.Dec.{leb}
+use borrow.Author.Tests.{leb-true}
+use Rattle.std.specs.Prelude.{if◌then◌else◌}
+use Rattle.basics.proofs.Tests.{and_parts, and_of, same_test, by_test, if_yes, if_no, if_either, le_or_lt}
 use Rattle.bits.specs.Bits.{has_bit}
-use Rattle.bits.proofs.Laws.{has_minus, has_ones}
-use Rattle.alphabet.specs.Alphabet.{is_letter, some_letter, lowest_letter}
-use Rattle.alphabet.proofs.Alphabet.{lowest_letter_is, lowest_none, letter_below, letter_some}
-use Rattle.letters.specs.Slots.{has_slot, code_at}
-use Rattle.letters.specs.LetterSet.{has_letter, LeastLetter}
+use Rattle.alphabet.specs.Alphabet.{is_letter, some_from, some_letter, lowest_letter}
+use Rattle.alphabet.proofs.Alphabet.{in_first, lowest_letter_is, lowest_none, letter_below, letter_some}
+use Rattle.letters.specs.Slots.{has_slot, slot_of}
+use Rattle.letters.specs.LetterSet.{in_slot, has_letter, LeastLetter}
 use native.Mathlib.Numerals.{add-one}
 use lib.ListN.{get_or, drop}
 use lib.Seq.{drop-cons}
 use Rattle.letters.specs.declared.LetterSet.{LetterSet}
 use Rattle.letters.specs.Order.{Range, in_range, small, capital, digit, order, place_by, place, among, first_by, first_letter}
-use Rattle.letters.proofs.Slots.{by_slot, has_low}
-use Rattle.letters.proofs.Sets.{by_words}
-use Rattle.letters.proofs.Shared.{lowest_shared, none_shared}
+use Rattle.letters.proofs.Sets.{is_letter_in, some_same, lowest_same}
 
 -- ---- the first letter
 
@@ -84,88 +80,77 @@ first_least f c i k = first_place order f (letter_some f c i k) c i k
 
 module _ (s g both : LetterSet) (meet : (c : ℕ) → has_letter both c ≡ (has_letter s c && has_letter g c))
     (r : Range) (rs : List Range) (range : (c : ℕ) → has_letter g c ≡ in_range r c) where
-  shared : (λ (c : ℕ). has_letter s c && has_letter g c) ≡ among r (has_letter s)
-  shared i c = has_letter s c && range c i
+  same : (c : ℕ) → has_letter both c ≡ among r (has_letter s) c
+  same c = meet c ∙ ap (λ (x : Bool). has_letter s c && x) (range c)
 
   -- there are some, and the lowest of them is the first letter
   pub found : (c : ℕ) → LeastLetter both c → c ≡ first_by (r ∷ rs) (has_letter s)
   found c l =
-      let some = none_shared s g both meet false (λ e. absurd (false≢true e)) (λ e. record { code = c; here = l.here }) ∙ ap some_letter shared in
-      lowest_shared s g both meet c l ∙ ap lowest_letter shared
-      ∙ sym (if_yes (lowest_letter (among r (has_letter s))) (first_by rs (has_letter s)) (some_letter (among r (has_letter s))) (sym some))
+      let some = letter_some (among r (has_letter s)) c (is_letter_in both c l.here) (sym (same c) ∙ l.here) in
+      lowest_same both (among r (has_letter s)) same c l
+      ∙ sym (if_yes (lowest_letter (among r (has_letter s))) (first_by rs (has_letter s)) (some_letter (among r (has_letter s))) some)
 
   -- there are none, and the ranges left decide
   pub passed : ((c : ℕ) → has_letter both c ≡ false) → first_by rs (has_letter s) ≡ first_by (r ∷ rs) (has_letter s)
   passed empty =
-      let none = none_shared s g both meet true (λ e. empty) (λ e. absurd (true≢false e)) ∙ ap some_letter shared in
-      sym (if_no (lowest_letter (among r (has_letter s))) (first_by rs (has_letter s)) (some_letter (among r (has_letter s))) (sym none))
+      by_test (some_letter (among r (has_letter s))) (λ e. let i = some_same both (among r (has_letter s)) same e in absurd (true≢false (sym i.here ∙ empty i.code)))
+      (λ e. sym (if_no (lowest_letter (among r (has_letter s))) (first_by rs (has_letter s)) (some_letter (among r (has_letter s))) e))
 
--- ---- the set of a range of codes below 128
+-- ---- the set of a range of letters, tried letter by letter
 
-module _ (r : Range) where
-  -- in the word of the 64 slots from base on, the range begins at this bit, and ends before that one
-  abbrev begin : ℕ → ℕ
-  begin base = min 64 (r.from - (32 + base))
+abbrev pub differ : Bool → Bool → Bool
+differ a b = if a then not b else b
 
-  abbrev end : ℕ → ℕ
-  end base = min 64 (r.to - (31 + base))
+same_of : (a b : Bool) → differ a b ≡ false → a ≡ b
+same_of true true e = refl
+same_of true false e = absurd (true≢false e)
+same_of false true e = absurd (true≢false e)
+same_of false false e = refl
 
-  abbrev word : ℕ → ℕ
-  word base = bit_and (2 ^ end base - 1) (2 ^ 64 - 1 - (2 ^ begin base - 1))
+module _ (r : Range) (s : LetterSet) (first : 32 ≤ r.from) (last : r.to ≤ 126) (tried : some_letter (λ c. differ (has_letter s c) (in_range r c)) ≡ false) where
+  range_set : (c : ℕ) → has_letter s c ≡ in_range r c
+  range_set c = same_test (has_letter s c) (in_range r c) (λ h. sym (same (is_letter_in s c h)) ∙ h) (λ h. same (letter h) ∙ h)
+    where
+      same : is_letter c ≡ true → has_letter s c ≡ in_range r c
+      same i =
+          by_test (differ (has_letter s c) (in_range r c)) (λ e. absurd (true≢false (sym (letter_some (λ k. differ (has_letter s k) (in_range r k)) c i e) ∙ tried)))
+          (same_of (has_letter s c) (in_range r c))
 
-  has_word : (base i : ℕ) → has_bit (word base) i ≡ (ltb i (end base) && leb (begin base) i)
-  has_word base i =
-      let m = pow-le-pow_right {n = 2} (omega arith) {i = begin base} {j = 64} (omega arith) in
-      let n = pow-le-pow_right {n = 2} (omega arith) {i = end base} {j = 64} (omega arith) in
-      has_minus (2 ^ end base - 1) (2 ^ begin base - 1) i (omega arith) (omega arith)
-      ∙ ap₂ (λ (x y : Bool). x && not y) (has_ones (end base) i) (has_ones (begin base) i)
-      ∙ ap (λ (x : Bool). ltb i (end base) && x) (not_less i (begin base))
+      letter : in_range r c ≡ true → is_letter c ≡ true
+      letter h =
+          let p = and_parts (leb r.from c) (leb c r.to) h in
+          let low = leb-true r.from c p.0 in
+          let high = leb-true c r.to p.1 in
+          in_first 32 126 160 255 c (omega arith) (omega arith)
 
-  ends : (c : ℕ) → in_range r c ≡ true → (r.from ≤ c) × (c ≤ r.to)
-  ends c e = let p = and_parts (leb r.from c) (leb c r.to) e in (leb-true r.from c p.0, leb-true c r.to p.1)
+-- the three ranges: 26 slots from 65 on, 26 from 33 on, and 10 from 16 on
+module _ (x : has_bit (2 ^ 27 - 2) 31 ≡ false) (y z : has_bit 0 31 ≡ false) where
+  abbrev small_set : LetterSet
+  small_set = record { low = 0; middle = 2 ^ 27 - 2; high = 0; letters = x }
 
-  module _ (first : 32 ≤ r.from) (last : r.to < 128) where
-    -- codes of slots from 96 on are past the range, and below that codes are slots moved on by 32
-    at : (base i : ℕ) → i < 64 → has_bit (word base) i ≡ in_range r (code_at (base + i))
-    at base i l =
-        let c = code_at (base + i) in
-        has_word base i
-        ∙ same_test (ltb i (end base) && leb (begin base) i) (in_range r c)
-        (λ e.
-        let p = and_parts (ltb i (end base)) (leb (begin base) i) e in
-        let high = ltb-true i (end base) p.0 in
-        let low = leb-true (begin base) i p.1 in
-        by_slot (in_range r c ≡ true) (base + i)
-        (λ _ is. and_of (leb r.from c) (leb c r.to) (le-leb r.from c (omega arith)) (le-leb c r.to (omega arith)))
-        (λ far is. absurd (omega arith)))
-        (λ e.
-        let low = (ends c e).0 in
-        let high = (ends c e).1 in
-        by_slot ((ltb i (end base) && leb (begin base) i) ≡ true) (base + i)
-        (λ _ is. and_of (ltb i (end base)) (leb (begin base) i) (lt-ltb i (end base) (omega arith)) (le-leb (begin base) i (omega arith)))
-        (λ far is. absurd (omega arith)))
+  abbrev capital_set : LetterSet
+  capital_set = record { low = 2 ^ 59 - 2 ^ 33; middle = 0; high = 0; letters = y }
 
-    pub range_set : (s : LetterSet) → s.low ≡ word 0 → s.middle ≡ word 64 → s.high ≡ word 128 → (c : ℕ) → has_letter s c ≡ in_range r c
-    range_set s low middle high c =
-        by_words s (in_range r) (λ i h. ap (λ x. has_bit x i) low ∙ at 0 i h) (λ i h. ap (λ x. has_bit x i) middle ∙ at 64 i h) (λ i h. ap (λ x. has_bit x i) high ∙ at 128 i h) c
-        ∙ same_test (has_slot c && in_range r c) (in_range r c) (λ e. (and_parts (has_slot c) (in_range r c) e).1)
-        (λ e.
-        let low = (ends c e).0 in
-        let high = (ends c e).1 in
-        and_of (has_slot c) (in_range r c) (has_low c (omega arith) (omega arith)) e)
+  abbrev digit_set : LetterSet
+  digit_set = record { low = 2 ^ 26 - 2 ^ 16; middle = 0; high = 0; letters = z }
 
--- ---- the ranges as sets, one by one
+  range_small : (c : ℕ) → has_letter small_set c ≡ in_range small c
+  unfolding some_from has_letter in_slot has_slot slot_of has_bit
+  range_small = range_set small small_set (omega arith) (omega arith) refl
 
--- the words of s are those of the range
-abbrev pub IsRange : Range → LetterSet → Type 0
-IsRange r s = (s.low ≡ word r 0) × (s.middle ≡ word r 64) × (s.high ≡ word r 128)
+  range_capital : (c : ℕ) → has_letter capital_set c ≡ in_range capital c
+  unfolding some_from has_letter in_slot has_slot slot_of has_bit
+  range_capital = range_set capital capital_set (omega arith) (omega arith) refl
 
-pub range_at : (a b d : LetterSet) → IsRange small a → IsRange capital b → IsRange digit d → (i : ℕ) (none : LetterSet) → i < 3
-    → (c : ℕ) → has_letter (get_or (a ∷ (b ∷ (d ∷ []))) i none) c ≡ in_range (get_or order i small) c
-range_at a b d x y z zero none h = range_set small (omega arith) (omega arith) _ x.0 x.1 x.2
-range_at a b d x y z (suc zero) none h = range_set capital (omega arith) (omega arith) _ y.0 y.1 y.2
-range_at a b d x y z (suc (suc zero)) none h = range_set digit (omega arith) (omega arith) _ z.0 z.1 z.2
-range_at a b d x y z (suc (suc (suc i))) none h = absurd (omega arith)
+  range_digit : (c : ℕ) → has_letter digit_set c ≡ in_range digit c
+  unfolding some_from has_letter in_slot has_slot slot_of has_bit
+  range_digit = range_set digit digit_set (omega arith) (omega arith) refl
+
+  pub range_at : (i : ℕ) (none : LetterSet) → i < 3 → (c : ℕ) → has_letter (get_or (small_set ∷ (capital_set ∷ (digit_set ∷ []))) i none) c ≡ in_range (get_or order i small) c
+  range_at zero none h = range_small
+  range_at (suc zero) none h = range_capital
+  range_at (suc (suc zero)) none h = range_digit
+  range_at (suc (suc (suc i))) none h = absurd (omega arith)
 
 -- a range and those after it
 pub range_and_rest : (i : ℕ) → i < 3 → drop i order ≡ get_or order i small ∷ drop (i + 1) order

@@ -13,7 +13,7 @@ use lib.Count.{count_trailing_zeros}
 use lib.ListN.{length, get_or, replicate}
 use Rattle.std.proofs.lemmas.List.{get_or_read}
 use Rattle.basics.specs.Folds.{Less, LeastOf}
-use Rattle.basics.proofs.Tests.{le_or_lt, neither_less, and_parts, and_of, by_test, by_equal, equal_added}
+use Rattle.basics.proofs.Tests.{le_or_lt, neither_less, and_parts, by_test, by_equal, equal_added}
 use Rattle.basics.proofs.Lists.{alike}
 use Rattle.bits.specs.Bits.{has_bit, Least}
 use Rattle.bits.proofs.Laws.{has_none, has_pow, has_and, has_not, has_high, least_trailing}
@@ -22,7 +22,7 @@ use Rattle.letters.specs.Slots.{has_slot, slot_of, code_at}
 use Rattle.letters.specs.LetterSet.{in_slot, has_letter, Some, LeastLetter, no_letters, set_at}
 use Rattle.letters.specs.declared.LetterSet.{LetterSet}
 use Rattle.alphabet.proofs.Alphabet.{lowest_letter_is, lowest_none, letter_some}
-use Rattle.letters.proofs.Slots.{slot_code, by_slots, code_less, code_equal, letter_at, has_letter_slot}
+use Rattle.letters.proofs.Slots.{slot_code, by_slots, code_less, code_equal, letter_slot, letter_at}
 
 -- ---- the three words
 
@@ -79,20 +79,6 @@ pub is_in_its_slot : (s : LetterSet) (c : ℕ) → has_slot c ≡ true → has_l
 unfolding has_letter
 is_in_its_slot s c h = ap (λ (t : Bool). t && in_slot s (slot_of c)) h
 
--- a set whose slots are those of the codes that pass f
-pub by_codes : (r : LetterSet) (f : ℕ → Bool) → ((i : ℕ) → i < 192 → in_slot r i ≡ f (code_at i)) → (c : ℕ) → has_letter r c ≡ (has_slot c && f c)
-by_codes r f e =
-    by_slots (λ (c : ℕ). has_letter r c ≡ (has_slot c && f c)) (λ c h. not_in r c h ∙ sym (ap (λ (t : Bool). t && f c) h))
-    (λ i l. code_in r i l ∙ e i l ∙ sym (ap (λ (t : Bool). t && f (code_at i)) (slot_code i l).0))
-
--- and a set by its three words
-pub by_words : (r : LetterSet) (f : ℕ → Bool) → ((i : ℕ) → i < 64 → has_bit r.low i ≡ f (code_at (0 + i))) → ((i : ℕ) → i < 64 → has_bit r.middle i ≡ f (code_at (64 + i)))
-    → ((i : ℕ) → i < 64 → has_bit r.high i ≡ f (code_at (128 + i))) → (c : ℕ) → has_letter r c ≡ (has_slot c && f c)
-by_words r f a b d =
-    by_codes r f
-    (by_place 64 (λ (i : ℕ). i < 192 → in_slot r i ≡ f (code_at i)) (λ i h l. at_low r i h ∙ a i h ∙ ap (λ (j : ℕ). f (code_at j)) (omega arith))
-    (λ i h l. at_middle r i h ∙ b i h) (λ i l. at_high r i ∙ d i (omega arith)))
-
 -- an operation that works bit by bit on the three words works code by code
 pub pointwise : (op : Bool → Bool → Bool) (r s t : LetterSet) → op false false ≡ false
     → ((j : ℕ) → has_bit r.low j ≡ op (has_bit s.low j) (has_bit t.low j))
@@ -123,17 +109,23 @@ in_high s i h = code_in s (128 + i) (omega arith) ∙ at_high s i
 pub by_letters : (r : LetterSet) (f : ℕ → Bool) → ((i : ℕ) → i < 64 → has_bit r.low i ≡ f (code_at (0 + i)))
     → ((i : ℕ) → i < 64 → (31 ≡ i → ⊥) → has_bit r.middle i ≡ f (code_at (64 + i)))
     → ((i : ℕ) → i < 64 → has_bit r.high i ≡ f (code_at (128 + i))) → (c : ℕ) → has_letter r c ≡ (is_letter c && f c)
-by_letters r f a b d c =
-    by_words r (λ k. is_letter k && f k) (λ i h. a i h ∙ letter (0 + i) (omega arith) (λ e. omega arith))
-    (λ i h.
-    by_equal 31 i
-    (λ e. subst (λ j. has_bit r.middle j ≡ (is_letter (code_at (64 + j)) && f (code_at (64 + j)))) e (r.letters ∙ sym (ap (λ t. t && f (code_at 95)) (letter_at 95 (omega arith)))))
-    (λ e. b i h e ∙ letter (64 + i) (omega arith) (λ z. e (omega arith))))
-    (λ i h. d i h ∙ letter (128 + i) (omega arith) (λ e. omega arith)) c
-    ∙ has_letter_slot c (f c)
+by_letters r f a b d =
+    by_slots (λ (c : ℕ). has_letter r c ≡ (is_letter c && f c))
+    (λ c h. not_in r c h ∙ sym (ap (λ t. t && f c) (by_test (is_letter c) (λ e. absurd (true≢false (sym (letter_slot c e) ∙ h))) (λ e. e))))
+    (λ i l. code_in r i l ∙ slots i l ∙ sym (ap (λ t. t && f (code_at i)) (letter_at i l)))
   where
-    letter : (i : ℕ) → i < 192 → (95 ≡ i → ⊥) → f (code_at i) ≡ (is_letter (code_at i) && f (code_at i))
-    letter i l e = sym (ap (λ t. t && f (code_at i)) (letter_at i l ∙ ap not (ne_eqb 95 i e)))
+    letter : (i : ℕ) → (95 ≡ i → ⊥) → f (code_at i) ≡ (not (eqb 95 i) && f (code_at i))
+    letter i e = sym (ap (λ t. not t && f (code_at i)) (ne_eqb 95 i e))
+
+    slots : (i : ℕ) → i < 192 → in_slot r i ≡ (not (eqb 95 i) && f (code_at i))
+    slots =
+        by_place 64 (λ (i : ℕ). i < 192 → in_slot r i ≡ (not (eqb 95 i) && f (code_at i)))
+        (λ i h l. at_low r i h ∙ a i h ∙ ap (λ (j : ℕ). f (code_at j)) (omega arith) ∙ letter i (λ e. omega arith))
+        (λ i h l.
+        at_middle r i h
+        ∙ by_equal 31 i (λ e. subst (λ (j : ℕ). has_bit r.middle j ≡ (not (eqb 95 (64 + j)) && f (code_at (64 + j)))) e r.letters)
+        (λ e. b i h e ∙ letter (64 + i) (λ z. e (omega arith))))
+        (λ i l. at_high r i ∙ d i (omega arith) ∙ letter (128 + i) (λ e. omega arith))
 
 -- a set has letters only
 pub only_letters : (s : LetterSet) (c : ℕ) → has_letter s c ≡ (is_letter c && has_letter s c)
@@ -164,8 +156,8 @@ cut_has m i h e = has_and m (2 ^ 64 - 1 - 2 ^ 31) i ∙ ap (λ t. has_bit m i &&
 -- three empty words are the empty set
 pub zero_none : (s : LetterSet) → s.low ≡ 0 → s.middle ≡ 0 → s.high ≡ 0 → (c : ℕ) → has_letter s c ≡ false
 zero_none s a b d c =
-    by_words s (λ k. false) (λ i h. ap (λ (x : ℕ). has_bit x i) a ∙ has_none i) (λ i h. ap (λ (x : ℕ). has_bit x i) b ∙ has_none i)
-    (λ i h. ap (λ (x : ℕ). has_bit x i) d ∙ has_none i) c ∙ and-false (has_slot c)
+    by_letters s (λ k. false) (λ i h. ap (λ (x : ℕ). has_bit x i) a ∙ has_none i) (λ i h e. ap (λ (x : ℕ). has_bit x i) b ∙ has_none i)
+    (λ i h. ap (λ (x : ℕ). has_bit x i) d ∙ has_none i) c ∙ and-false (is_letter c)
 
 -- ---- the word with the lowest letter
 
@@ -243,30 +235,31 @@ module _ (s : LetterSet) (base m : ℕ) (w : Word s base m) where
 pub rest_lacks : (m n : ℕ) → m < 2 ^ 64 → 0 < m → ((u : ℕ) → Least m u → Less (has_bit m) u (has_bit n)) → (i : ℕ) → has_bit m i ≡ false → has_bit n i ≡ false
 rest_lacks m n f p e i h = let u = count_trailing_zeros 64 m in e u (least_trailing 64 m p f).1 i ∙ ap (λ b. b && not (eqb u i)) h
 
--- ---- a set that holds the letters that pass f, against what the specification says of f
+-- ---- a set that has what passes f, against what the specification says of f
 
-pub lowest_same : (s : LetterSet) (f : ℕ → Bool) → ((c : ℕ) → has_letter s c ≡ (is_letter c && f c)) → (t : ℕ) → LeastLetter s t → t ≡ lowest_letter f
-lowest_same s f same t l =
-    let p = and_parts (is_letter t) (f t) (sym (same t) ∙ l.here) in
-    let some = letter_some f t p.0 p.1 in
-    let m = lowest_letter f in
-    let q = lowest_letter_is f some in
-    neither_less t m (λ h. true≢false (sym p.1 ∙ lowest_none f some t p.0 h))
-    (λ h. true≢false (sym (same m ∙ and_of (is_letter m) (f m) q.0 q.1) ∙ l.none m h))
+module _ (s : LetterSet) (f : ℕ → Bool) (same : (c : ℕ) → has_letter s c ≡ f c) where
+  held : (c : ℕ) → has_letter s c ≡ true → (is_letter c ≡ true) × (f c ≡ true)
+  held c h = (is_letter_in s c h, sym (same c) ∙ h)
 
--- is_empty's answer r
-pub none_same : (s : LetterSet) (f : ℕ → Bool) → ((c : ℕ) → has_letter s c ≡ (is_letter c && f c)) → (r : Bool) → (r ≡ true → (c : ℕ) → has_letter s c ≡ false)
-    → (r ≡ false → Some s) → r ≡ not (some_letter f)
-none_same s f same true empty some =
-    by_test (some_letter f)
-    (λ e.
-    let q = lowest_letter_is f e in
-    absurd (true≢false (sym (same (lowest_letter f) ∙ and_of (is_letter (lowest_letter f)) (f (lowest_letter f)) q.0 q.1) ∙ empty refl (lowest_letter f))))
-    (λ e. ap not (sym e))
-none_same s f same false empty some =
-    let e = some refl in
-    let p = and_parts (is_letter e.code) (f e.code) (sym (same e.code) ∙ e.here) in
-    ap not (sym (letter_some f e.code p.0 p.1))
+  lowest_in : some_letter f ≡ true → has_letter s (lowest_letter f) ≡ true
+  lowest_in h = same (lowest_letter f) ∙ (lowest_letter_is f h).1
+
+  pub some_same : some_letter f ≡ true → Some s
+  some_same h = record { code = lowest_letter f; here = lowest_in h }
+
+  pub lowest_same : (t : ℕ) → LeastLetter s t → t ≡ lowest_letter f
+  lowest_same t l =
+      let p = held t l.here in
+      let some = letter_some f t p.0 p.1 in
+      let m = lowest_letter f in
+      neither_less t m (λ h. true≢false (sym p.1 ∙ lowest_none f some t p.0 h)) (λ h. true≢false (sym (lowest_in some) ∙ l.none m h))
+
+  -- is_empty's answer r
+  pub none_same : (r : Bool) → (r ≡ true → (c : ℕ) → has_letter s c ≡ false) → (r ≡ false → Some s) → r ≡ not (some_letter f)
+  none_same true empty some = by_test (some_letter f) (λ e. absurd (true≢false (sym (lowest_in e) ∙ empty refl (lowest_letter f)))) (λ e. ap not (sym e))
+  none_same false empty some = let e = some refl in let p = held e.code e.here in ap not (sym (letter_some f e.code p.0 p.1))
+
+-- ---- arrays of sets
 
 -- the set read at i is that of entry i
 pub read_set : (sets : List LetterSet) (i : ℕ) (s : LetterSet) → i < length sets → s ≡ get_or sets i s → s ≡ set_at sets i

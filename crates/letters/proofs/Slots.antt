@@ -1,7 +1,7 @@
 -- Codes and slots. The codes that have a slot are, in rising order, those of the slots 0 to 191. Assumes nothing.
 use mathlib.Core.Path.{◌≡◌, sym, ap, ◌∙◌, subst}
 use mathlib.Core.Logic.{⊎_elim}
-use mathlib.Core.Bool.{Bool, true, false, not, ◌&&◌, and-false}
+use mathlib.Core.Bool.{true, false, not}
 use Prim.Native.Nat.{ℕ, ◌+◌, ◌-◌, ◌≤◌, ◌<◌}
 use native.Mathlib.Omega.{arith}
 use lib.Dec.{eqb, ltb}
@@ -85,11 +85,6 @@ code_equal i j l m =
 
 pub letter_slot : (c : ℕ) → is_letter c ≡ true → has_slot c ≡ true
 letter_slot c h = by_ranges (has_slot c ≡ true) 32 126 160 255 c h (λ a b. has_low c a (omega arith)) (λ a b. has_high c a (omega arith))
-
-pub has_letter_slot : (c : ℕ) (t : Bool) → (has_slot c && (is_letter c && t)) ≡ (is_letter c && t)
-has_letter_slot c t =
-    by_test (is_letter c) (λ h. ap (λ (u : Bool). u && (is_letter c && t)) (letter_slot c h))
-    (λ h. ap (λ (u : Bool). has_slot c && (u && t)) h ∙ and-false (has_slot c) ∙ sym (ap (λ (u : Bool). u && t) h))
 
 pub letter_at : (i : ℕ) → i < 192 → is_letter (code_at i) ≡ not (eqb 95 i)
 letter_at i l = same_test (is_letter (code_at i)) (not (eqb 95 i)) (λ t. ap not (ne_eqb 95 i (λ e. other e t))) (λ t. letter (eqb-false 95 i (not-true (eqb 95 i) t)))

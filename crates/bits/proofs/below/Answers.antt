@@ -3,19 +3,12 @@ use mathlib.Core.Path.{ap, sym, ◌∙◌}
 use Prim.Native.Nat.{ℕ, ◌-◌, ◌<◌}
 use native.Mathlib.Omega.{arith}
 use lib.Dec.{ltb}
-use lib.Pow.{pow_pos}
 use Rattle.bits.specs.Bits.{has_bit}
 use Rattle.bits.proofs.Laws.{has_ones, one_shl}
 use Rattle.bits.proofs.below.Goals as goal
 
 pub returns-then-n-eq-WIDTH : goal.returns-then-n-eq-WIDTH
 returns-then-n-eq-WIDTH c j = has_ones 64 j ∙ ap (ltb j) (sym c.if-n-eq-WIDTH.true)
-
-pub overflow_sub-result : goal.overflow_sub-result
-overflow_sub-result c =
-    let n = c.args.n in
-    let h : n < 64 = omega (arith, c.if-n-eq-WIDTH.false) in
-    omega (arith, one_shl n h, pow_pos n)
 
 pub returns-else-n-eq-WIDTH : goal.returns-else-n-eq-WIDTH
 returns-else-n-eq-WIDTH c j =

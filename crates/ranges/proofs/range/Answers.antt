@@ -21,7 +21,7 @@ module _ (a b from to : ℕ) (first : (i : ℕ) → i < 192 → ltb i from ≡ l
       ∙ ap₂ ◌&&◌ (sym (not_less (base + i) from) ∙ ap not (first (base + i) l) ∙ not_less k a) (last (base + i) l ∙ below_next k (b + 1) b refl)
 
 pub invariant_of-result : goal.invariant_of-result
-invariant_of-result c = record { letters = cut_lacks _ }
+invariant_of-result c = record { letters = cut_lacks c.word-2.result }
 
 pub returns : goal.returns
 returns c =

@@ -1,6 +1,8 @@
 -- The set of both is empty just where they share no letter. Assumes nothing.
-use Rattle.letters.proofs.Shared.{none_shared}
+use mathlib.Core.Path.{ap, ◌∙◌}
+use mathlib.Core.Bool.{not, not-not}
+use Rattle.letters.proofs.Sets.{none_same}
 use Rattle.shares.proofs.share.Goals as goal
 
 pub returns : goal.returns
-returns c = none_shared c.args.s c.args.t c.intersection.result c.intersection.ensures c.is_empty.result c.is_empty.ensures.0 c.is_empty.ensures.1
+returns c = ap not (none_same c.intersection.result _ c.intersection.ensures c.is_empty.result c.is_empty.ensures.0 c.is_empty.ensures.1) ∙ not-not _

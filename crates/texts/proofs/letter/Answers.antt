@@ -4,10 +4,9 @@ use mathlib.Core.Path.{◌≡◌, ap, ap₂, ◌∙◌}
 use mathlib.Core.Bool.{◌&&◌}
 use Prim.Native.Nat.{ℕ, ◌<◌}
 use native.Mathlib.Omega.{arith}
-use Rattle.letters.specs.LetterSet.{has_letter, set_at}
+use Rattle.letters.specs.LetterSet.{has_letter}
 use Rattle.letters.specs.Order.{first_letter}
-use Rattle.letters.proofs.Sets.{read_set}
-use Rattle.letters.proofs.Shared.{some_shared}
+use Rattle.letters.proofs.Sets.{read_set, some_same}
 use Rattle.nodes.specs.Nodes.{left_of, right_of}
 use Rattle.nodes.proofs.Nodes.{numbered_sides}
 use Rattle.shares.specs.Tables.{held}
@@ -41,9 +40,7 @@ both_held c d =
     e ∙ ap₂ (λ x y. has_letter x d && has_letter y d) s t ∙ ap₂ (λ i j. held sets i j d) left right
 
 pub first_in_order-requires : goal.first_in_order-requires
-first_in_order-requires c =
-    let at = set_at c.args.sets.now in
-    some_shared (at (left_of c.args.number)) (at (right_of c.args.number)) _ (both_held (goal.at.first_in_order-requires c).After-intersection) c.requires.some
+first_in_order-requires c = some_same c.intersection.result _ (both_held (goal.at.first_in_order-requires c).After-intersection) c.requires.some
 
 pub returns : goal.returns
 unfolding letter_at

@@ -15,7 +15,7 @@ complemented : (w i : ℕ) → w < 2 ^ 64 → i < 64 → has_bit (2 ^ 64 - 1 - w
 complemented w i f h = has_not 64 w i f ∙ ap (λ t. t && not (has_bit w i)) (lt-ltb i 64 h)
 
 pub invariant_of-result : goal.invariant_of-result
-invariant_of-result c = record { letters = cut_lacks _ }
+invariant_of-result c = record { letters = cut_lacks (2 ^ 64 - 1 - c.args.self.middle) }
 
 pub returns : goal.returns
 returns c =
