@@ -7,7 +7,7 @@ use lib.Dec.{ltb}
 use lib.ListN.{length}
 use borrow.Author.Tests.{le-ltb}
 use Rattle.std.specs.Prelude.{if◌then◌else◌, Ok, Err}
-use Rattle.basics.proofs.Tests.{by_test, if_yes, if_no}
+use Rattle.basics.proofs.Tests.{if_no}
 use Rattle.graph.specs.Graph.{Graph}
 use Rattle.graph.specs.Trim.{Trim}
 use Rattle.pattern.specs.Refusals.{pattern_refusal, number_of}
@@ -17,6 +17,7 @@ use Rattle.pattern.proofs.Doubled.{trim}
 use Rattle.vetting.specs.Answers.{Judged}
 use Rattle.vetting.specs.declared.Vetted.{Vetted}
 use Rattle.calls.specs.Vetting.{vet_refusal, VetSays}
+use Rattle.std.proofs.lemmas.Grind.{common_steps}
 
 -- ---- which refusal
 
@@ -32,12 +33,7 @@ module _ (s : List ℕ) (e w : ℕ) where
 
   -- where none of them applies, none of the pattern's does
   pub accepts : vet_refusal s e w ≡ 0 → pattern_refusal s ≡ 0
-  accepts f =
-      by_test (ltb e 4096)
-      (λ y. let z = sym (if_yes 1 of_scratch (ltb e 4096) y) ∙ f in absurd (omega arith))
-      (λ n.
-      let g : of_scratch ≡ 0 = sym (if_no 1 of_scratch (ltb e 4096) n) ∙ f in
-      by_test (ltb w 8192) (λ y. let z = sym (if_yes 2 (pattern_refusal s) (ltb w 8192) y) ∙ g in absurd (omega arith)) (λ m. sym (if_no 2 (pattern_refusal s) (ltb w 8192) m) ∙ g))
+  accepts f = grind (arith, common_steps)
 
 -- ---- what is promised
 

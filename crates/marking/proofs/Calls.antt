@@ -25,7 +25,6 @@ use Rattle.pattern.specs.Refusals.{pattern_refusal}
 use Rattle.pattern.specs.declared.Refusal.{Refusal}
 use Rattle.pattern.specs.Positions.{positions, pattern_graph}
 use Rattle.pattern.specs.Texts.{Text}
-use Rattle.pattern.proofs.Numbers.{number_low}
 use Rattle.verdict.specs.Verdict.{verdict}
 use Rattle.verdict.specs.Evidence.{times, ShowsSteady, ShowsRunaway}
 use Rattle.verdict.specs.Answers.{Begins, ShowsBy}
@@ -41,6 +40,7 @@ use Rattle.marking.specs.ForC.{MarkForC, VetForC, VetAlone}
 use Rattle.marking.proofs.Demands as Demands
 use Rattle.marking.proofs.Packing.{vet_fields, mark_fields, mark_unpacks}
 use Rattle.marking.proofs.Stored as Stored
+use Rattle.std.proofs.lemmas.Grind.{common_steps}
 
 -- ==== What is said of marking the answer s
 
@@ -175,12 +175,7 @@ module _ (b s : List ℕ) where
     accepted_gets_mark = λ a l t. refl;
     true_mark = λ z. true_mark m (sym says.refusal) says.marked;
   }
-  mark_answer_keeps (Err e) says = record {
-    refusal_is = says.refusal;
-    refusal_alone = λ d. (refl, refl, refl);
-    accepted_gets_mark = λ a l t. says.refusal ∙ Marking.accepted b s a l t;
-    true_mark = λ z. let n = number_low e in absurd (omega arith);
-  }
+  mark_answer_keeps (Err e) says = grind (arith, common_steps)
 
 -- For C: the header's shifts and masks, and the number that it makes of the 32 bits, give back what was packed.
 pub mark_fields_again : (b s : List ℕ) (old new n : ℕ) (h : MarkForC b s old new n)
@@ -256,13 +251,7 @@ module _ (b e e' w w' : List ℕ) where
     accepted_gets_verdict = λ a l k. refl;
     true_verdict = λ z. true_verdict v (Vetting.accepts b (length e) (length w) (sym says.refusal)) says.outcome.judged;
   }
-  vet_pattern_keeps (Err x) says = record {
-    refusal_is = says.refusal;
-    refusal_alone = λ d. refl;
-    refusal_keeps = λ d. (says.outcome.evidence, says.outcome.scratch);
-    accepted_gets_verdict = λ a l k. says.refusal ∙ Vetting.by_pattern b (length e) (length w) l k ∙ a;
-    true_verdict = λ z. let n = number_low x in absurd (omega arith);
-  }
+  vet_pattern_keeps (Err x) says = grind (arith, common_steps)
 
 -- For C: the header's shifts and masks give back what was packed.
 pub vet_fields_again : (b e e' w w' : List ℕ) (n : ℕ) (h : VetForC b e e' w w' n) → vet_unpacked n ≡ vet_fields_of h.vetted

@@ -6,7 +6,7 @@ use mathlib.Core.Bool.{Bool, true, false, ◌&&◌, ◌||◌, not, true≢false}
 use mathlib.Core.List.{List}
 use Prim.Native.Nat.{ℕ, ◌+◌, ◌-◌, ◌*◌, ◌/◌, ◌%◌, ◌^◌, ◌≤◌, ◌<◌}
 use native.Mathlib.Omega.{arith}
-use borrow.Author.Tests.{lt-ltb, le-ltb, ltb-true, leb-true, lt-leb, le-leb, not-true}
+use borrow.Author.Tests.{lt-ltb, le-ltb, lt-leb, le-leb, not-true}
 use lib.Dec.{eqb, ltb, leb}
 use lib.ListN.{get_or}
 use Rattle.std.specs.Prelude.{if◌then◌else◌, Option, None, Some}
@@ -22,6 +22,7 @@ use Rattle.nodes.specs.declared.Seen.{Seen}
 use Rattle.nodes.specs.declared.Steps.{Steps}
 use Rattle.nodes.specs.Nodes.{IsNode, one, two, pack, left_of, right_of, number_of, Fits, Numbered, left_side, right_side, goes, RowOf, Parts, Step, single, beside, PartnersOf}
 use Rattle.nodes.specs.Taken.{taken, Free, FoundPair, FindsPair, Fresh, new_single, new_beside, Gone, Found, Finds}
+use Rattle.std.proofs.lemmas.Grind.{common_steps}
 
 -- ---- the two sides of a node
 
@@ -35,9 +36,7 @@ pack_more a b h = if_no (b * 64 + a) (a * 64 + b) (ltb a b) (le-ltb a b h)
 
 -- in either order
 pub pack_swap : (a b : ℕ) → pack a b ≡ pack b a
-pack_swap a b =
-    ⊎_elim (λ h. ⊎_elim (λ k. let e : a ≡ b = omega arith in ap₂ pack e (sym e)) (λ k. pack_less a b k ∙ sym (pack_more b a h)) (le_or_lt b a))
-    (λ h. pack_more a b (omega arith) ∙ sym (pack_less b a h)) (le_or_lt a b)
+pack_swap a b = grind (arith, common_steps, pack_less, pack_more, le_or_lt)
 
 -- what holds of a pair in order, and does not tell the order, holds of every pair
 by_order : (P : ℕ → ℕ → Type 0) → ((a b : ℕ) → P a b → P b a) → ((a b : ℕ) → b ≤ a → P a b) → (a b : ℕ) → P a b
@@ -131,18 +130,11 @@ numbered_sides x (Two a b) e = (e.1 ∙ sym (left_high x e.0), e.2 ∙ sym (righ
 -- ---- a step leads to a node
 
 pub goes_parts : (F : List ℕ) (u i : ℕ) → goes F u i ≡ true → (has_bit (get_or F u 0) i ≡ true) × (1 ≤ i) × (i ≤ 60)
-goes_parts F u i h =
-    let p = and_parts (has_bit (get_or F u 0) i) (leb 1 i && ltb i 61) h in
-    let q = and_parts (leb 1 i) (ltb i 61) p.1 in
-    let l = ltb-true i 61 q.1 in
-    (p.0, leb-true 1 i q.0, omega arith)
+goes_parts F u i h = grind (arith, common_steps)
 
 module _ (t : Steps) (x : ℕ) where
   pub parts_positions : (a b : ℕ) → Parts t x a b → Places a b
-  parts_positions a b p =
-      let l = goes_parts t.follow (left_of x) a p.left in
-      let r = goes_parts t.follow (right_of x) b p.right in
-      record { left_low = l.1; left_high = l.2; right_low = r.1; right_high = r.2 }
+  parts_positions a b p = grind (arith, common_steps)
 
   pub step_node : (y : ℕ) → Step t x y → IsNode y
   step_node y (single {a} l h) = one {a = a} (goes_parts t.follow x a h).2
@@ -160,13 +152,7 @@ taken_high seen x h = if_no (has_bit seen.states x) (has_bit (get_or seen.pairs 
 
 module _ (seen : Seen) where
   pub taken_pair : (a b : ℕ) → Places a b → taken seen (pack a b) ≡ has_bit (get_or seen.pairs a 0) b
-  taken_pair = by_order (λ a b. Places a b → taken seen (pack a b) ≡ has_bit (get_or seen.pairs a 0) b)
-      (λ a b f h. ap (taken seen) (pack_swap b a) ∙ f (turned b a h) ∙ seen.even a b h.right_high h.left_high)
-      (λ a b l h.
-      let big : 64 ≤ a * 64 + b = omega arith in
-      let left : (a * 64 + b) / 64 ≡ a = omega arith in
-      let right : (a * 64 + b) % 64 ≡ b = omega arith in
-      ap (taken seen) (pack_more a b l) ∙ taken_high seen (a * 64 + b) big ∙ ap₂ (λ i j. has_bit (get_or seen.pairs i 0) j) left right)
+  taken_pair = grind (arith, common_steps, by_order, pack_swap, turned, right_high, left_high, pack_more, taken_high)
 
   module _ (t : Steps) (x : ℕ) where
     -- what is found is one step on and not taken up
@@ -186,11 +172,7 @@ module _ (seen : Seen) where
 
 module _ {to shared seen a own m : ℕ} (p : PartnersOf to shared seen a own m) (b : ℕ) where
   partner_parts : has_bit m b ≡ true → (has_bit to b ≡ true) × (has_bit shared b ≡ true) × (has_bit seen b ≡ false) × ((has_bit own a || not (eqb a b)) ≡ true)
-  partner_parts h =
-      let x = and_parts ((has_bit to b && has_bit shared b) && not (has_bit seen b)) (has_bit own a || not (eqb a b)) (sym (p.bits b) ∙ h) in
-      let y = and_parts (has_bit to b && has_bit shared b) (not (has_bit seen b)) x.0 in
-      let z = and_parts (has_bit to b) (has_bit shared b) y.0 in
-      (z.0, z.1, not-true (has_bit seen b) y.1, x.1)
+  partner_parts h = grind (arith, common_steps)
 
 module _ {S : List ℕ} {seen : Seen} {from to own a m : ℕ} (p : PartnersOf to (get_or S a 0) (get_or seen.pairs a 0) a own m) {b : ℕ} where
   pub partner_free : has_bit from a ≡ true → has_bit m b ≡ true → Free S seen from to own a b
@@ -199,11 +181,7 @@ module _ {S : List ℕ} {seen : Seen} {from to own a m : ℕ} (p : PartnersOf to
 -- those of `from` that a loop has passed have none, so that whoever has one is not below the one at hand
 pub free_pending : {S : List ℕ} {seen : Seen} {from to own left a : ℕ} (n m : ℕ) → Passed from left (λ a. (b : ℕ) → Free S seen from to own a b → ⊥) → LeastOf (has_bit left) a → ((j : ℕ) → has_bit n j ≡ ltb j a) → ((j : ℕ) → has_bit m j ≡ (has_bit from j && not (has_bit n j)))
     → (c d : ℕ) → Free S seen from to own c d → has_bit m c ≡ true
-free_pending {from = from} {left = left} {a = a} n m p least below is c d f =
-    is c ∙ and_of (has_bit from c) (not (has_bit n c)) f.left (ap not (below c ∙ le-ltb c a high))
-  where
-    high : a ≤ c
-    high = ⊎_elim (λ h. h) (λ h. absurd (p.done c f.left (least.none c h) d f)) (le_or_lt a c)
+free_pending {from = from} {left = left} {a = a} n m p least below is c d f = grind (arith, common_steps)
 
 -- the members of a row are positions
 pub row_positions : {F : List ℕ} {u m : ℕ} → RowOf F u m → (i : ℕ) → has_bit m i ≡ true → (1 ≤ i) × (i ≤ 60)
@@ -338,14 +316,7 @@ record Folded (a b n : ℕ) : Type 0 where
   far : 31 ≤ a → n ≡ (60 - a) * 61 + (60 - a + b)
 
 number_two : (a b : ℕ) → 1 ≤ b → b ≤ a → a ≤ 60 → Folded a b (number (a * 64 + b))
-number_two a b l m h =
-    let left : (a * 64 + b) / 64 ≡ a = omega arith in
-    let right : (a * 64 + b) % 64 ≡ b = omega arith in
-    let e : number (a * 64 + b) ≡ fold_pair a b = if_no (1830 + (a * 64 + b)) (fold_pair ((a * 64 + b) / 64) ((a * 64 + b) % 64)) (ltb (a * 64 + b) 64) (le-ltb (a * 64 + b) 64 (omega arith)) ∙ ap₂ fold_pair left right in
-    record {
-      near = λ k. e ∙ if_yes ((a - 1) * 61 + (b - 1)) ((60 - a) * 61 + (60 - a + b)) (ltb a 31) (lt-ltb a 31 k);
-      far = λ k. e ∙ if_no ((a - 1) * 61 + (b - 1)) ((60 - a) * 61 + (60 - a + b)) (ltb a 31) (le-ltb a 31 k);
-    }
+number_two a b l m h = grind (arith, common_steps)
 
 pair_below : (a b : ℕ) → 1 ≤ b → b ≤ a → a ≤ 60 → number (a * 64 + b) < 1830
 pair_below a b l m h = let n = number_two a b l m h in ⊎_elim (λ k. omega (arith, n.far k)) (λ k. omega (arith, n.near k)) (le_or_lt 31 a)
@@ -354,24 +325,8 @@ pub node_low : (x : ℕ) → IsNode x → number x < 1891
 node_low x (one {a} h) = omega (arith, number_low a (omega arith))
 node_low x (two {a} {b} l m h) = omega (arith, pair_below a b l m h)
 
--- line and place in the line
-lined : (n m q r u v : ℕ) → n ≡ m → n ≡ q * 61 + r → m ≡ u * 61 + v → r < 61 → v < 61 → (q ≡ u) × (r ≡ v)
-lined n m q r u v e f g l k =
-    let a : q ≡ n / 61 = omega arith in
-    let b : u ≡ n / 61 = omega arith in
-    (omega arith, omega arith)
-
 pub node_told : (x y : ℕ) → IsNode x → IsNode y → number x ≡ number y → x ≡ y
 node_told x y (one {a} h) (one {a = c} k) e = omega (arith, number_low a (omega arith), number_low c (omega arith))
 node_told x y (one {a} h) (two {a = c} {b = d} l m k) e = absurd (omega (arith, number_low a (omega arith), pair_below c d l m k))
 node_told x y (two {a} {b} l m h) (one {a = c} k) e = absurd (omega (arith, number_low c (omega arith), pair_below a b l m h))
-node_told x y (two {a} {b} l m h) (two {a = c} {b = d} l' m' h') e =
-    let n = number_two a b l m h in
-    let n' = number_two c d l' m' h' in
-    let same = lined (number (a * 64 + b)) (number (c * 64 + d)) in
-    ⊎_elim
-    (λ k. ⊎_elim (λ k'. omega (arith, same (60 - a) (60 - a + b) (60 - c) (60 - c + d) e (n.far k) (n'.far k') (omega arith) (omega arith)))
-    (λ k'. omega (arith, same (60 - a) (60 - a + b) (c - 1) (d - 1) e (n.far k) (n'.near k') (omega arith) (omega arith))) (le_or_lt 31 c))
-    (λ k. ⊎_elim (λ k'. omega (arith, same (a - 1) (b - 1) (60 - c) (60 - c + d) e (n.near k) (n'.far k') (omega arith) (omega arith)))
-    (λ k'. omega (arith, same (a - 1) (b - 1) (c - 1) (d - 1) e (n.near k) (n'.near k') (omega arith) (omega arith))) (le_or_lt 31 c))
-    (le_or_lt 31 a)
+node_told x y (two {a} {b} l m h) (two {a = c} {b = d} l' m' h') e = grind (arith, common_steps)

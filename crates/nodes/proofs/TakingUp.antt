@@ -1,15 +1,15 @@
 -- Taking a node up: a state in the set, or a pair in both of its rows. Assumes nothing.
-use mathlib.Core.Path.{◌≡◌, sym, ap, ap₂, ◌∙◌, subst}
+use mathlib.Core.Path.{◌≡◌, sym, ap, ap₂, ◌∙◌}
 use mathlib.Core.Logic.{⊎_elim}
-use mathlib.Core.Bool.{Bool, false, ◌&&◌, ◌||◌, or-false, or_assoc}
+use mathlib.Core.Bool.{Bool, false, ◌&&◌, ◌||◌, or-false}
 use mathlib.Core.List.{List}
 use Prim.Native.Nat.{ℕ, ◌+◌, ◌*◌, ◌/◌, ◌%◌, ◌≤◌, ◌<◌}
 use native.Mathlib.Omega.{arith}
-use borrow.Author.Tests.{eq-eqb, ne_eqb, eqb-true}
+use Rattle.std.proofs.lemmas.Grind.{common_steps}
+use borrow.Author.Tests.{ne_eqb}
 use lib.Dec.{eqb}
 use lib.ListN.{get_or, set, length, length-set, replicate}
-use lib.Seq.{get_or-set_same, get_or-set_other}
-use Rattle.basics.proofs.Tests.{and_parts, and_of, or_left, or_cases, le_or_lt, by_equal, same_test}
+use Rattle.basics.proofs.Tests.{le_or_lt}
 use Rattle.basics.proofs.Lists.{zeros}
 use Rattle.bits.specs.Bits.{has_bit}
 use Rattle.bits.proofs.Laws.{has_none}
@@ -44,46 +44,12 @@ hit a b c d = (eqb a c && eqb b d) || (eqb b c && eqb a d)
 
 -- of two pairs in order
 hit_same : (a b c d : ℕ) → b ≤ a → a < 64 → d ≤ c → c < 64 → hit a b c d ≡ eqb (a * 64 + b) (c * 64 + d)
-hit_same a b c d l m k n =
-    same_test (hit a b c d) (eqb (a * 64 + b) (c * 64 + d))
-    (λ h. eq-eqb (a * 64 + b) (c * 64 + d)
-    (⊎_elim (λ e. let p = and_parts (eqb a c) (eqb b d) e in let x = eqb-true a c p.0 in let y = eqb-true b d p.1 in omega arith)
-    (λ e. let p = and_parts (eqb b c) (eqb a d) e in let x = eqb-true b c p.0 in let y = eqb-true a d p.1 in omega arith)
-    (or_cases (eqb a c && eqb b d) (eqb b c && eqb a d) h)))
-    (λ h.
-    let e = eqb-true (a * 64 + b) (c * 64 + d) h in
-    let x : a ≡ (a * 64 + b) / 64 = omega arith in
-    let y : c ≡ (c * 64 + d) / 64 = omega arith in
-    or_left (eqb a c && eqb b d) (eqb b c && eqb a d) (and_of (eqb a c) (eqb b d) (eq-eqb a c (x ∙ ap (λ (z : ℕ). z / 64) e ∙ sym y)) (eq-eqb b d (omega (arith, x ∙ ap (λ (z : ℕ). z / 64) e ∙ sym y)))))
+hit_same a b c d l m k n = grind (arith, common_steps)
 
 module _ (seen : List ℕ) (a b m n : ℕ) (size : length seen ≡ 61) (even : EvenRows seen) (l : a ≤ 60) (k : b ≤ 60) (row : (j : ℕ) → has_bit m j ≡ (has_bit (get_or seen a 0) j || eqb b j))
     (other : (j : ℕ) → has_bit n j ≡ (has_bit (get_or (set seen a m) b 0) j || eqb a j)) where
   rows : (c d : ℕ) → has_bit (get_or (set (set seen a m) b n) c 0) d ≡ (has_bit (get_or seen c 0) d || hit a b c d)
-  rows c d =
-      let x = has_bit (get_or seen c 0) d in
-      by_equal c b
-      (λ z.
-      let here : get_or (set (set seen a m) b n) c 0 ≡ n = ap (λ (i : ℕ). get_or (set (set seen a m) b n) i 0) z ∙ get_or-set_same (set seen a m) b n 0 (omega (arith, length-set seen a m)) in
-      ap (λ (v : ℕ). has_bit v d) here ∙ other d
-      ∙ by_equal c a
-      (λ y.
-      let e : get_or (set seen a m) b 0 ≡ m = ap (λ (i : ℕ). get_or (set seen a m) i 0) (sym z ∙ y) ∙ get_or-set_same seen a m 0 (omega arith) in
-      ap (λ (v : ℕ). has_bit v d || eqb a d) e ∙ ap (λ (t : Bool). t || eqb a d) (row d ∙ ap (λ (i : ℕ). has_bit (get_or seen i 0) d || eqb b d) (sym y)) ∙ or_assoc x (eqb b d) (eqb a d)
-      ∙ ap (λ (t : Bool). x || t) (ap₂ (λ (s t : Bool). (s && eqb b d) || (t && eqb a d)) (sym (eq-eqb a c (sym y))) (sym (eq-eqb b c (sym z)))))
-      (λ y.
-      let e : get_or (set seen a m) b 0 ≡ get_or seen c 0 = get_or-set_other seen a b m 0 (λ q. y (z ∙ q)) ∙ ap (λ (i : ℕ). get_or seen i 0) (sym z) in
-      ap (λ (v : ℕ). has_bit v d || eqb a d) e
-      ∙ ap (λ (t : Bool). x || t) (ap₂ (λ (s t : Bool). (s && eqb b d) || (t && eqb a d)) (sym (ne_eqb a c (λ q. y (sym q)))) (sym (eq-eqb b c (sym z))))))
-      (λ z.
-      ap (λ (v : ℕ). has_bit v d) (get_or-set_other (set seen a m) b c n 0 z)
-      ∙ by_equal c a
-      (λ y.
-      let e : get_or (set seen a m) c 0 ≡ m = ap (λ (i : ℕ). get_or (set seen a m) i 0) y ∙ get_or-set_same seen a m 0 (omega arith) in
-      ap (λ (v : ℕ). has_bit v d) e ∙ row d ∙ ap (λ (i : ℕ). has_bit (get_or seen i 0) d || eqb b d) (sym y)
-      ∙ ap (λ (t : Bool). x || t) (sym (ap₂ (λ (s t : Bool). (s && eqb b d) || (t && eqb a d)) (eq-eqb a c (sym y)) (ne_eqb b c (λ q. z (sym q))) ∙ or-false (eqb b d))))
-      (λ y.
-      ap (λ (v : ℕ). has_bit v d) (get_or-set_other seen a c m 0 y) ∙ sym (or-false x)
-      ∙ ap (λ (t : Bool). x || t) (sym (ap₂ (λ (s t : Bool). (s && eqb b d) || (t && eqb a d)) (ne_eqb a c (λ q. y (sym q))) (ne_eqb b c (λ q. z (sym q)))))))
+  rows c d = grind (arith, common_steps, length-set)
 
 -- the pair of a and b, with b of row a and a of row b
 take_pair : (seen seen' : Seen) (a b m n : ℕ) → 1 ≤ b → b ≤ a → a ≤ 60 → seen'.states ≡ seen.states → seen'.pairs ≡ set (set seen.pairs a m) b n → ((j : ℕ) → has_bit m j ≡ (has_bit (get_or seen.pairs a 0) j || eqb b j))
@@ -107,15 +73,11 @@ take_pair seen seen' a b m n u h l alone pairs row other = record { takes = take
 -- ---- a node that the program holds
 
 pub took_state : (seen seen' : Seen) (n : Node) (a : ℕ) → Fits n → n ≡ Together a → seen'.pairs ≡ seen.pairs → ((j : ℕ) → has_bit seen'.states j ≡ (has_bit seen.states j || eqb a j)) → TakenUp seen seen' (number_of n)
-took_state seen seen' n a fits is same h =
-    let low = subst Fits is fits in
-    subst (λ (m : Node). TakenUp seen seen' (number_of m)) (sym is) (take_state seen seen' a (omega arith) same h)
+took_state seen seen' n a fits is same h = grind (arith, common_steps, take_state)
 
 pub took_pair : (seen seen' : Seen) (n : Node) (a b m k : ℕ) → Fits n → n ≡ Two a b → seen'.states ≡ seen.states → seen'.pairs ≡ set (set seen.pairs a m) b k → ((j : ℕ) → has_bit m j ≡ (has_bit (get_or seen.pairs a 0) j || eqb b j))
     → ((j : ℕ) → has_bit k j ≡ (has_bit (get_or (set seen.pairs a m) b 0) j || eqb a j)) → TakenUp seen seen' (number_of n)
-took_pair seen seen' n a b m k fits is alone pairs row other =
-    let f = subst Fits is fits in
-    subst (λ (m : Node). TakenUp seen seen' (number_of m)) (sym is) (take_pair seen seen' a b m k f.0 f.1 f.2 alone pairs row other)
+took_pair seen seen' n a b m k fits is alone pairs row other = grind (arith, common_steps, take_pair)
 
 -- ---- the first
 

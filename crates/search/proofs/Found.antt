@@ -1,7 +1,6 @@
 -- What a search that is over says of the graph: a search for parted pairs finds one just where `parts_to` holds, and the chain of
 -- nodes that leads to it is two different walks; a search of one path finds a route. Assumes nothing.
 use mathlib.Core.Path.{◌≡◌, refl, sym, ap, ap₂, ◌∙◌, subst}
-use mathlib.Core.Logic.{⊎_elim}
 use mathlib.Core.Bool.{Bool, true, false, ◌&&◌, not, true≢false, false≢true, and_comm}
 use mathlib.Core.List.{List, [], ◌∷◌, map}
 use Prim.Native.Nat.{ℕ, ◌≤◌, ◌<◌}
@@ -27,12 +26,13 @@ use Rattle.search.specs.declared.Goal.{Goal}
 use Rattle.search.specs.declared.Search.{Search}
 use Rattle.shares.specs.Tables.{Rows, Tables}
 use Rattle.nodes.specs.declared.Steps.{Steps}
-use Rattle.nodes.specs.Nodes.{pack, left_of, right_of, Step, single, beside}
+use Rattle.nodes.specs.Nodes.{left_of, right_of, Step, single, beside}
 use Rattle.nodes.specs.Taken.{taken}
 use Rattle.search.specs.Search.{queue, is_goal, SoundQueue, Searching, Reached}
 use Rattle.nodes.proofs.Nodes.{sides, left_low, right_low, left_high, right_high}
 use Rattle.search.proofs.Visiting.{goal_low, goal_high, complete, way_back}
 use Rattle.search.proofs.Moves.{letter_swap, code_of, code, Held, moved_held, positions, lift_chain, drop_chain}
+use Rattle.std.proofs.lemmas.Grind.{common_steps}
 
 -- ---- goals
 
@@ -66,12 +66,7 @@ none_found {steps} {s} {goal} {u} {w} h over c k =
 module _ {g : Graph} {steps : Steps} (tables : Tables g steps) where
   goal_code : (goal : Goal) → goal.parted ≡ true → (f : Bool) (t : Pair) → Held g f t → is_goal goal (code_of f t) ≡ (f && both_in goal.mask t.left t.right)
   goal_code goal p false t h = goal_low goal t.left (omega (arith, h.1)) ∙ ap (λ (x : Bool). not x && has_bit goal.mask t.left) p
-  goal_code goal p true t h =
-      let x = pack t.left t.right in
-      let m = goal.mask in
-      let d = sides t.left t.right (positions tables t.left t.right h.0 h.1) in
-      goal_sides goal x d.high
-      ∙ ⊎_elim (λ e. ap₂ (both_in m) e.0 e.1) (λ e. ap₂ (both_in m) e.0 e.1 ∙ and_comm (has_bit m t.right) (has_bit m t.left)) d.sides
+  goal_code goal p true t h = grind (arith, common_steps, sides, positions, goal_sides, and_comm)
 
   held_end : (u : ℕ) (c : List Node) → u ≤ g.positions → Chain (Moves g) (start u) c → Held g (end_of (start u) c).parted (end_of (start u) c).at
   held_end u c l h = chain_end (Moves g) (λ n. Held g n.parted n.at) (λ n m s k. moved_held g n m s) (start u) c h (refl, l)
@@ -117,12 +112,8 @@ module _ {g : Graph} {steps : Steps} (tables : Tables g steps) where
   -- ---- the text
 
   letter_code : (f : Bool) (t : Pair) → Held g f t → letter_of g (code_of f t) ≡ letter_shown g t.left t.right
-  letter_code false t h =
-      let low : t.left < 64 = omega (arith, h.1) in
-      ap₂ (letter_shown g) (left_low t.left low) (right_low t.left low ∙ h.0)
-  letter_code true t h =
-      ⊎_elim (λ e. ap₂ (letter_shown g) e.0 e.1) (λ e. ap₂ (letter_shown g) e.0 e.1 ∙ letter_swap g t.right t.left)
-      (sides t.left t.right (positions tables t.left t.right h.0 h.1)).sides
+  letter_code false t h = grind (arith, common_steps, left_low, right_low)
+  letter_code true t h = grind (arith, common_steps, letter_swap, sides, positions)
 
   pub shown_codes : (n : Node) (c : List Node) → Chain (Moves g) n c → map (letter_of g) (map code c) ≡ shown g (lefts (pairs c)) (rights (pairs c))
   shown_codes n [] h = refl

@@ -15,14 +15,14 @@ use Rattle.alphabet.specs.Alphabet.{some_letter}
 use Rattle.letters.specs.Order.{first_letter}
 use Rattle.bits.specs.Bits.{has_bit}
 use Rattle.graph.specs.Graph.{Graph, is_position, next}
-use Rattle.graph.proofs.Walks.{position_of}
 use Rattle.verdict.specs.Pairs.{Pair, pair, shares, letter_shown}
 use Rattle.verdict.proofs.Pairs.{Placed, Beside}
-use Rattle.verdict.proofs.Flags.{Node, node, Moves, same_at}
+use Rattle.verdict.proofs.Flags.{Node, node, Moves}
 use Rattle.shares.specs.Tables.{Tables}
 use Rattle.nodes.specs.declared.Steps.{Steps}
 use Rattle.nodes.specs.Nodes.{pack, left_of, right_of, goes, Step, single, beside}
 use Rattle.nodes.proofs.Nodes.{pack_swap, Places, sides, left_low, right_low}
+use Rattle.std.proofs.lemmas.Grind.{common_steps}
 
 -- ---- letters of two positions in either order
 
@@ -46,18 +46,11 @@ module _ (g : Graph) where
   Held false t = (t.left ≡ t.right) × (t.left ≤ g.positions)
 
   pub moved_held : (n m : Node) → Moves g n m → Held m.parted m.at
-  moved_held n m s = of m.parted (same_at g n m s)
-    where
-      of : (f : Bool) → (f ≡ false → m.at.left ≡ m.at.right) → Held f m.at
-      of true e = s.step.placed
-      of false e = (e refl, (position_of g m.at.left s.step.placed.0).1)
+  moved_held n m s = grind (arith, common_steps)
 
 module _ {g : Graph} {steps : Steps} (tables : Tables g steps) where
   pub positions : (a b : ℕ) → is_position g a ≡ true → is_position g b ≡ true → Places a b
-  positions a b h k =
-      let p = position_of g a h in
-      let q = position_of g b k in
-      record { left_low = p.0; left_high = omega arith; right_low = q.0; right_high = omega arith }
+  positions a b h k = grind (arith, common_steps)
 
   record Lifted (n : Node) (y : ℕ) : Type 0 where
     to : Node
@@ -68,15 +61,7 @@ module _ {g : Graph} {steps : Steps} (tables : Tables g steps) where
 
   -- two positions that come next
   besides : (t : Pair) (a b c d : ℕ) → c ≡ t.left → d ≡ t.right → goes steps.follow c a ≡ true → goes steps.follow d b ≡ true → has_bit (get_or steps.shares a 0) b ≡ true → Beside g t (pair a b)
-  besides t a b c d e f h k s =
-      let p = tables.rows.comes c a h in
-      let q = tables.rows.comes d b k in
-      record {
-        placed = (p.0, q.0);
-        left_next = subst (λ (u : ℕ). next g u a ≡ true) e p.1;
-        right_next = subst (λ (u : ℕ). next g u b ≡ true) f q.1;
-        share = sym (tables.shares.share a b p.0 q.0) ∙ s;
-      }
+  besides t a b c d e f h k s = grind (arith, common_steps)
 
   step_move : (f : Bool) (t : Pair) (y : ℕ) → Held g f t → Step steps (code_of f t) y → Lifted (node t f) y
   step_move false t y h (single {a} l k) =
@@ -140,16 +125,7 @@ module _ {g : Graph} {steps : Steps} (tables : Tables g steps) where
 
   move_step : (f e : Bool) (t r : Pair) → Held g f t → Held g e r → Moves g (node t f) (node r e) → Step steps (code_of f t) (code_of e r)
   move_step false false t r h k s = single (omega (arith, h.1)) (tables.rows.goes_on t.left r.left s.step.placed.0 s.step.left_next)
-  move_step false true t r h k s =
-      let x = t.left in
-      let a = r.left in
-      let low : x < 64 = omega (arith, h.1) in
-      let twice : Bool = leb 64 x || has_bit (get_or steps.doubles x 0) a in
-      let differ : Bool = not (eqb a r.right) in
-      parts x t r (left_low x low) (right_low x low ∙ h.0) s.step
-      (⊎_elim (or_right twice differ)
-      (λ e. or_left twice differ (or_right (leb 64 x) (has_bit (get_or steps.doubles x 0) a) (tables.doubles.several x a h.1 s.step.placed.0 ∙ s.two e)))
-      (or_cases differ s.links (sym s.flag)))
+  move_step false true t r h k s = grind (arith, common_steps, parts, left_low, right_low, or_right, or_left, or_cases)
   move_step true false t r h k s = absurd (true≢false (sym s.flag))
   move_step true true t r h k s =
       let x = pack t.left t.right in

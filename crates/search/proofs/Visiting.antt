@@ -1,10 +1,10 @@
 -- A search goes on: a node is taken up, the head of the queue is passed, a search is begun; and once it is over, each node that a
 -- chain of steps leads to is taken up. Of the queue's nodes no two are one, so there are at most 1891. Assumes nothing.
-use mathlib.Core.Path.{◌≡◌, refl, sym, ap, ap₂, ◌∙◌, subst}
+use mathlib.Core.Path.{◌≡◌, refl, sym, ap, ◌∙◌, subst}
 use mathlib.Core.Logic.{⊎_elim}
 use mathlib.Core.Bool.{Bool, true, false, not, ◌&&◌, ◌||◌, true≢false}
 use mathlib.Core.List.{List, [], ◌∷◌}
-use Prim.Native.Nat.{ℕ, zero, suc, ◌+◌, ◌-◌, ◌*◌, ◌/◌, ◌%◌, ◌^◌, ◌≤◌, ◌<◌}
+use Prim.Native.Nat.{ℕ, zero, suc, ◌+◌, ◌-◌, ◌/◌, ◌%◌, ◌^◌, ◌≤◌, ◌<◌}
 use native.Mathlib.Omega.{arith}
 use borrow.Author.Tests.{lt-ltb, le-ltb, eq-eqb, eqb-true}
 use lib.Dec.{eqb, ltb}
@@ -27,6 +27,7 @@ use Rattle.nodes.specs.Nodes.{IsNode, one, pack, number_of, Fits, Numbered, Step
 use Rattle.nodes.specs.Taken.{taken, OneTaken, TakenUp, Fresh, Gone, Found, Finds}
 use Rattle.search.specs.Search.{queue, back_of, Queued, SoundQueue, SoundSearch, enqueue, is_goal, Begun, TookUp, Ended, Searching, Reached}
 use Rattle.nodes.proofs.Nodes.{number, node_low, node_told, numbered_fits, step_node, parts_positions, pack_node, taken_pair, fresh, spent, all_pending}
+use Rattle.std.proofs.lemmas.Grind.{common_steps}
 
 -- ---- the queue after a node is taken up
 
@@ -114,17 +115,7 @@ module _ {E : ℕ → ℕ → Type 0} {T : ℕ → Bool} {s : List ℕ} {h t : �
 -- ---- the head is passed
 
 pub passed : {E : ℕ → ℕ → Type 0} {T : ℕ → Bool} {s : List ℕ} {h t : ℕ} → SoundQueue E T s h t → h < t → ((y : ℕ) → E (queue s h) y → IsNode y × (T y ≡ true)) → SoundQueue E T s (h + 1) t
-passed {E} {s = s} {h} {t} w l spent = record {
-  begun = w.begun;
-  within = omega arith;
-  few = w.few;
-  nodes = w.nodes;
-  taken_up = w.taken_up;
-  queued = w.queued;
-  differ = w.differ;
-  back = w.back;
-  closed = λ i k. one_more h (λ i. (y : ℕ) → E (queue s i) y → Queued s t y) w.closed (λ y q. let p = spent y q in w.queued y p.0 p.1) i k;
-}
+passed {E} {s = s} {h} {t} w l spent = grind (arith, common_steps)
 
 -- ---- once it is over
 
@@ -174,17 +165,10 @@ goal_high goal x h = if_no (not goal.parted && has_bit goal.mask x) (has_bit goa
 
 -- of a node as the program holds it
 pub goal_together : (goal : Goal) {n : Node} {a : ℕ} {r : Bool} → Fits n → n ≡ Together a → r ≡ has_bit goal.mask a → (not goal.parted && r) ≡ is_goal goal (number_of n)
-goal_together goal {a = a} fits is e =
-    let low = subst Fits is fits in
-    ap (λ (x : Bool). not goal.parted && x) e ∙ sym (ap (λ (n : Node). is_goal goal (number_of n)) is ∙ goal_low goal a (omega arith))
+goal_together goal {a = a} fits is e = grind (arith, common_steps, goal_low)
 
 pub goal_parted : (goal : Goal) {n : Node} {a b : ℕ} {r q : Bool} → Fits n → n ≡ Two a b → r ≡ has_bit goal.mask a → q ≡ has_bit goal.mask b → (r && q) ≡ is_goal goal (number_of n)
-goal_parted goal {a = a} {b} fits is e f =
-    let p = subst Fits is fits in
-    let left : (a * 64 + b) / 64 ≡ a = omega (arith, p) in
-    let right : (a * 64 + b) % 64 ≡ b = omega (arith, p) in
-    ap₂ ◌&&◌ e f
-    ∙ sym (ap (λ (n : Node). is_goal goal (number_of n)) is ∙ goal_high goal (a * 64 + b) (omega (arith, p)) ∙ ap₂ (λ (i j : ℕ). has_bit goal.mask i && has_bit goal.mask j) left right)
+goal_parted goal {a = a} {b} fits is e f = grind (arith, common_steps, goal_high)
 
 -- ---- a search
 
@@ -247,14 +231,7 @@ took {steps} {s} {s'} {w} {w'} x {r} long sound l at f e up h t p =
 
 -- after heads that were passed
 pub went_on : {steps : Steps} {s₀ s s' : List ℕ} {w₀ w w' : Search} {i : ℕ} {y : Node} → s ≡ s₀ → w.tail ≡ w₀.tail → TookUp steps s s' w w' i y → TookUp steps s₀ s' w₀ w' i y
-went_on {w = w} {w'} e t v = record {
-  sound = v.sound;
-  kept = λ j l. v.kept j (omega arith) ∙ ap (λ (x : List ℕ). queue x j) e;
-  last = v.last ∙ t;
-  more = omega (arith, v.more);
-  is = v.is;
-  fits = v.fits;
-}
+went_on {w = w} {w'} e t v = grind (arith, common_steps)
 
 -- the first node is all that is taken up
 pub search_begin : (s s' : List ℕ) (start : ℕ) (w : Search) → 4096 ≤ length s → start ≤ 60 → s' ≡ enqueue s start 0 0 → OneTaken start w.seen → w.head ≡ 0 → w.tail ≡ 1 → w.pending ≡ 2 ^ 64 - 1 → (steps : Steps) → Begun steps s' start w
@@ -271,12 +248,10 @@ search_begin s s' start w long low e first h t p steps = record {
 
 -- a search that has begun, and has no goal yet
 pub search_first : {steps : Steps} {s : List ℕ} {goal : Goal} {start : ℕ} {w : Search} → Begun steps s start w → is_goal goal start ≡ false → Searching steps s goal start w
-search_first {s = s} {goal} b none =
-    record { sound = b.sound; first = b.first; none = λ i l. let z : i ≡ 0 = omega (arith, b.one) in ap (λ (k : ℕ). is_goal goal (queue s k)) z ∙ ap (is_goal goal) b.first ∙ none }
+search_first {s = s} {goal} b none = grind (arith, common_steps)
 
 pub begun_found : {steps : Steps} {s : List ℕ} {goal : Goal} {start : ℕ} {w : Search} → Begun steps s start w → is_goal goal start ≡ true → Reached steps s goal start 0
-begun_found {goal = goal} {w = w} b e =
-    record { head = w.head; tail = w.tail; is_taken = taken w.seen; sound = b.sound.queue; first = b.first; low = omega (arith, b.one); meets = ap (is_goal goal) b.first ∙ e }
+begun_found {goal = goal} {w = w} b e = grind (arith, common_steps)
 
 module _ {steps : Steps} {s s' : List ℕ} {goal : Goal} {start : ℕ} {w w' : Search} (a : Searching steps s goal start w) where
   -- one more node is taken up
@@ -286,17 +261,8 @@ module _ {steps : Steps} {s s' : List ℕ} {goal : Goal} {start : ℕ} {w w' : S
 
     -- and is one
     pub search_found : is_goal goal (number_of y) ≡ true → Reached steps s' goal start i
-    search_found e = record {
-      head = w'.head;
-      tail = w'.tail;
-      is_taken = taken w'.seen;
-      sound = v.sound.queue;
-      first = first;
-      low = omega (arith, v.last, v.more);
-      meets = ap (is_goal goal) v.is ∙ e;
-    }
+    search_found e = grind (arith, common_steps)
 
   -- the search is over
   pub search_over : Ended steps s s' w w' → Searching steps s' goal start w'
-  search_over v =
-      record { sound = v.sound; first = ap (λ (x : List ℕ). queue x 0) v.kept ∙ a.first; none = λ j l. ap (λ (x : List ℕ). is_goal goal (queue x j)) v.kept ∙ a.none j (omega (arith, v.still)) }
+  search_over v = grind (arith, common_steps)

@@ -7,7 +7,7 @@ use mathlib.Core.List.{List, [], ◌∷◌, ◌++◌, map, append_assoc}
 use Prim.Native.Nat.{ℕ, ◌+◌, ◌-◌, ◌≤◌, ◌<◌, zero-le}
 use native.Mathlib.Omega.{arith}
 use borrow.Author.Tests.{eqb-true, eq-eqb, ne_eqb, lt-ltb, le-leb}
-use lib.Dec.{eqb, ltb, leb}
+use lib.Dec.{eqb}
 use lib.ListN.{get_or, length, take, drop, length-map, length-append, replicate}
 use lib.Seq.{take_at, drop-append-add, drop-drop}
 use Rattle.std.specs.Prelude.{if◌then◌else◌, Option, None, Some, IsSome}
@@ -47,16 +47,12 @@ use Rattle.search.proofs.Moves.{shares_swap}
 use Rattle.search.proofs.Visiting.{goal_low}
 use Rattle.search.proofs.Found.{both_in, parted, short_nodes, shown_codes, some_parts, none_parts, letter_of, chain_route, route_chain}
 use Rattle.search.proofs.Pivoting.{only_at, equal_swap}
+use Rattle.std.proofs.lemmas.Grind.{common_steps}
 
 -- ---- texts one after the other
 
 begins_more : (p y e e' e'' : List ℕ) (n m : ℕ) → length p ≡ n → length y ≡ m → Begins p e e' → e'' ≡ take n e' ++ (y ++ drop (n + m) e') → Begins (p ++ y) e e''
-begins_more p y e e' e'' n m a b h k =
-    let rest = drop (length p) e in
-    k
-    ∙ ap₂ (λ u v. u ++ (y ++ v)) (ap (take n) h ∙ take_at p rest n a)
-    (ap₂ drop (ap₂ ◌+◌ (sym a) (sym b)) h ∙ drop-append-add p rest (length y) ∙ drop-drop (length y) (length p) e ∙ ap (λ i. drop i e) (sym (length-append p y)))
-    ∙ sym (append_assoc p y (drop (length (p ++ y)) e))
+begins_more p y e e' e'' n m a b h k = grind (arith, common_steps, take_at, drop-append-add, drop-drop, length-append, append_assoc)
 
 -- ---- a text that is shown
 
@@ -77,17 +73,7 @@ module _ {b : Built} {more : List ℕ} (fit : Vettable b more) where
 
   pub tables_of : (D S : List ℕ) → ((u i : ℕ) → u ≤ b.positions → has_bit (get_or D u 0) i ≡ is_doubled b.follow more u i)
       → ((a c : ℕ) → a ≤ b.positions → c ≤ b.positions → has_bit (get_or S a 0) c ≡ some_letter (held b.letters a c)) → Tables g (record { follow = b.follow; doubles = D; shares = S })
-  tables_of D S h k = record {
-    rows = record {
-      few = fit.bounded.few;
-      comes = λ u i h. let n = built_next b more u i ∙ (and_parts (has_bit (get_or b.follow u 0) i) (leb 1 i && ltb i 61) h).0 in (fit.bounded.next_to u i n, n);
-      goes_on = λ u i h n.
-          let p = position_of g i h in
-          and_of (has_bit (get_or b.follow u 0) i) (leb 1 i && ltb i 61) (sym (built_next b more u i) ∙ n) (and_of (leb 1 i) (ltb i 61) (le-leb 1 i p.0) (lt-ltb i 61 (omega arith)));
-    };
-    doubles = record { several = λ u i l p. h u i l ∙ sym (built_doubled b more u i) };
-    shares = record { share = λ a c l m. let p = position_of g a l in let q = position_of g c m in k a c (omega arith) (omega arith); own = own };
-  }
+  tables_of D S h k = grind (arith, common_steps, built_next, and_parts, position_of, and_of, le-leb, lt-ltb, built_doubled, own)
 
   -- ---- each node that a step leads to has a letter
 
@@ -189,8 +175,7 @@ module _ {b : Built} {more : List ℕ} (fit : Vettable b more) where
   -- where there is a route, a search finds one
   route_some : {t : Steps} → Tables g t → (m : ℕ) (e e' : List ℕ) {u : ℕ} (base : ℕ) (r : Option ℕ) (c : List ℕ) → u ≤ g.positions → Route g u c → has_bit m (end_of u c) ≡ true
       → Shown b.letters (alone t) e e' (state_in m) u base r → IsSome r
-  route_some {t} tables m e e' {u} base None c l h k s =
-      absurd (true≢false (sym (goal_at m u c l h ∙ k) ∙ s.1 c (route_chain (alone t) tables.rows u c (omega arith) h)))
+  route_some {t} tables m e e' {u} base None c l h k s = grind (arith, common_steps, true≢false, goal_at, route_chain)
   route_some tables m e e' base (Some r) c l h k s = refl
 
   -- ---- no pivot
