@@ -2,7 +2,7 @@
 // hold it. Both tables are a built pattern's, turned round: a row is walked member by member, and its number put into each entry.
 #![tactic(auto)]
 
-ghost use Rattle.std.specs.Prelude.{◌≡◌, true, ℕ, ◌<◌, ◌+◌, length, get_or};
+ghost use Rattle.std.specs.Prelude.{◌≡◌, true, ℕ, ◌<◌, ◌+◌, ◌^◌, length, get_or};
 ghost use Rattle.bits.specs.Bits.{has_bit};
 ghost use Rattle.letters.specs.LetterSet.{has_letter, set_at};
 ghost use Rattle.columns.specs.Tables.{Columns, Entered};
@@ -12,6 +12,7 @@ use graph::Built;
 
 // For each position the states that it may follow, from the positions that may follow each state.
 pub fn states_before(b: &Built) -> [u64; 61]
+    requires { (u : ℕ) → get_or b.now.follow u 0 < 2 ^ 61 }
     ensures { Columns (λ u i. has_bit (get_or b.now.follow u 0) i) (b.now.positions + 1) result }
 {
     let mut table = [0u64; 61];

@@ -2,7 +2,7 @@
 // are in such a graph is said in specs/.
 #![tactic(auto)]
 
-ghost use Rattle.std.specs.Prelude.{ℕ, ◌≤◌, ◌<◌, ◌^◌, get_or};
+ghost use Rattle.std.specs.Prelude.{◌≤◌};
 
 use letters::LetterSet;
 
@@ -21,5 +21,4 @@ pub struct Built {
     pub letters: [LetterSet; 61],
     pub credits: [u8; 61],
     ghost few: { positions ≤ 60 },
-    ghost within: { (u : ℕ) → get_or follow u 0 < 2 ^ 61 },
 }

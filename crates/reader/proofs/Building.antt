@@ -1,11 +1,11 @@
 -- The graph that the built pattern shows. Two graphs are equal where they agree at every state, position and code; the rows and
 -- sets agree with the rules' tests because no position past 60 passes one, and the numbers of links with the rules' because none is
 -- above 256. Assumes nothing.
-use mathlib.Core.Path.{◌≡◌, refl, sym, ap, ap₂, ◌∙◌, subst}
+use mathlib.Core.Path.{◌≡◌, refl, ap, ap₂, ◌∙◌, subst}
 use mathlib.Core.Bool.{Bool, true, false, ◌&&◌, ◌||◌, and-true, and-false, or-false}
 use mathlib.Core.List.{List}
 use mathlib.Core.Logic.{⊎_elim}
-use Prim.Native.Nat.{ℕ, zero, suc, ◌+◌, ◌*◌, ◌^◌, ◌≤◌, ◌<◌}
+use Prim.Native.Nat.{ℕ, zero, suc, ◌+◌, ◌*◌, ◌≤◌, ◌<◌}
 use native.Mathlib.Omega.{arith}
 use lib.Dec.{eqb, ltb}
 use lib.IntN.{ℤ, nat_abs}
@@ -15,7 +15,6 @@ use borrow.Author.Tests.{lt-ltb, le-ltb, ne_eqb, ltb-true}
 use Rattle.std.specs.Prelude.{if◌then◌else◌}
 use Rattle.basics.proofs.Tests.{and_of, by_test, le_or_lt}
 use Rattle.bits.specs.Bits.{has_bit}
-use Rattle.bits.proofs.Laws.{lt_of_high}
 use Rattle.letters.specs.declared.LetterSet.{LetterSet}
 use Rattle.graph.specs.Graph.{some, Bounded, SingleLinks}
 use Rattle.graph.specs.Built.{graph_of_built}
@@ -27,7 +26,7 @@ use Rattle.pattern.specs.Grammar.{no_atom}
 use Rattle.pattern.specs.Positions.{atoms, positions, atom_at, is_first, is_last, links, links_of, last_of, graph_of}
 use Rattle.pattern.proofs.Own.{first_own, last_own, follow_own}
 use Rattle.pattern.proofs.Bounds.{graph_bounded}
-use Rattle.links.specs.Rows.{kept, Links, entry, number, after, NoneCounted}
+use Rattle.links.specs.Rows.{kept, entry, number, after, NoneCounted}
 use Rattle.links.proofs.Counting.{after_few}
 use Rattle.parsed.specs.Tables.{atom_of, Stored}
 use Rattle.parsed.specs.Parsed.{shape_of}
@@ -55,18 +54,9 @@ single_shown b more e u i =
     ∙ ap (λ (n : ℕ). has_bit (get_or b.follow u 0) i && some n) (e (61 * u + i))
     ∙ and-false (has_bit (get_or b.follow u 0) i)
 
--- rows of links have no number past 60
-pub row_few : (rows : List ℕ) (u : ℕ) (g : ℕ → ℕ → Bool) → get_or rows u 0 < 2 ^ 64 → Links rows g → get_or rows u 0 < 2 ^ 61
-row_few rows u g fits l = lt_of_high 61 (get_or rows u 0) fits (λ j h. l u j ∙ ap (λ t. (kept u && t) && g u j) (le-ltb j 61 h) ∙ ap (λ t. t && g u j) (and-false (kept u)))
-
--- with another row 0
-pub first_few : (rows : List ℕ) (row : ℕ) → 0 < length rows → row < 2 ^ 61 → ((u : ℕ) → get_or rows u 0 < 2 ^ 61) → (u : ℕ) → get_or (set rows 0 row) u 0 < 2 ^ 61
-first_few rows row long h l zero = subst (λ m. m < 2 ^ 61) (sym (get_or-set_same rows 0 row 0 long)) h
-first_few rows row long h l (suc u) = subst (λ m. m < 2 ^ 61) (sym (get_or-set_other rows 0 (suc u) row 0 (λ z. omega arith))) (l (suc u))
-
-module _ (p : Parsed) (rows : List ℕ) (sets : List LetterSet) (credits : List ℕ) (lasts : ℕ) (long : 0 < length rows) (low : p.n ≤ 60) (within : (u : ℕ) → get_or (set rows 0 p.firsts) u 0 < 2 ^ 61) (ends : (j : ℕ) → has_bit lasts j ≡ (has_bit p.lasts j || (p.empty && eqb 0 j))) where
+module _ (p : Parsed) (rows : List ℕ) (sets : List LetterSet) (credits : List ℕ) (lasts : ℕ) (long : 0 < length rows) (low : p.n ≤ 60) (ends : (j : ℕ) → has_bit lasts j ≡ (has_bit p.lasts j || (p.empty && eqb 0 j))) where
   abbrev made : Built
-  made = record { positions = p.n; follow = set rows 0 p.firsts; doubled = p.doubled; lasts = lasts; letters = sets; credits = credits; few = low; within = within }
+  made = record { positions = p.n; follow = set rows 0 p.firsts; doubled = p.doubled; lasts = lasts; letters = sets; credits = credits; few = low }
 
   module _ (x : Part) (more : List ℕ) (w : Kept (shape_of x) rows more sets credits p) (few : positions x ≤ 60) (some_links : (u i : ℕ) → links_of x u i ≤ 256) where
     -- no link leads from 0, which is no position

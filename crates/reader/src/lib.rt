@@ -1,7 +1,7 @@
 // Reading a pattern: its refusal, or the built pattern. `read` takes any bytes.
 #![tactic(auto)]
 
-ghost use Rattle.std.specs.Prelude.{◌≡◌, ℕ, ◌≤◌, ◌<◌, ◌^◌, get_or};
+ghost use Rattle.std.specs.Prelude.{◌≡◌, ◌≤◌};
 ghost use Rattle.links.specs.Rows.{NoneCounted};
 ghost use Rattle.reader.specs.Read.{Reads, Builds};
 
@@ -55,7 +55,7 @@ pub fn read(s: &[u8], more: &mut [u8; 3721]) -> Result<Built, Refusal>
 // A pattern that nothing refuses, built of its links and of the tables. The state 0, before any letter, gets its row, the firsts, and
 // is a last where the pattern can be empty.
 fn accepted(part: Parsed, rows: [u64; 61], tables: &Tables) -> Built
-    requires { (part.n ≤ 60) × (part.firsts < 2 ^ 61) × ((u : ℕ) → get_or rows u 0 < 2 ^ 61) }
+    requires { part.n ≤ 60 }
     ensures { Builds part rows tables.now.sets tables.now.credits result }
 {
     let mut follow = rows;

@@ -31,6 +31,10 @@ pub record Tables (g : Graph) (t : Steps) : Type 0 where
 
 -- ---- the links of a built pattern
 
+-- no row has a number past 60
+abbrev pub Within : List ℕ → Type 0
+Within F = (u i : ℕ) → has_bit (get_or F u 0) i ≡ true → i ≤ 60
+
 -- do two links or more lead from u to i, by the rows of what may come next and the table of links beyond the first
 abbrev pub is_doubled : List ℕ → List ℕ → ℕ → ℕ → Bool
 is_doubled F more u i = has_bit (get_or F u 0) i && some (get_or more (61 * u + i) 0)

@@ -6,7 +6,7 @@ ghost use Rattle.std.specs.Prelude.{◌≡◌, true, false, ◌&&◌, ℕ, ◌+�
 ghost use Rattle.bits.specs.Bits.{has_bit};
 ghost use Rattle.alphabet.specs.Alphabet.{some_letter};
 ghost use Rattle.letters.specs.LetterSet.{has_letter};
-ghost use Rattle.shares.specs.Tables.{is_doubled, NoneDoubled, held};
+ghost use Rattle.shares.specs.Tables.{Within, is_doubled, NoneDoubled, held};
 
 use graph::Built;
 use letters::LetterSet;
@@ -47,7 +47,7 @@ fn share(s: LetterSet, t: LetterSet) -> bool
 // The positions to which two links or more lead from u, for every state u up to `positions`, in rows: those of its row of `follow`
 // with a number above 0 in the table of links beyond the first. Where `doubled` says that there are none, nothing is looked up.
 pub fn double_rows(b: &Built, more: &[u8; 3721]) -> [u64; 61]
-    requires { b.now.doubled ≡ false → NoneDoubled b.now.follow more.now }
+    requires { Within b.now.follow × (b.now.doubled ≡ false → NoneDoubled b.now.follow more.now) }
     ensures { (u i : ℕ) → u ≤ b.now.positions → has_bit (get_or result u 0) i ≡ is_doubled b.now.follow more.now u i }
 {
     let mut rows = [0u64; 61];

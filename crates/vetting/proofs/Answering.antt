@@ -37,7 +37,7 @@ use Rattle.verdict.proofs.Shows.{both_last, parting_steady, loops_runaway}
 use Rattle.search.specs.declared.Goal.{Goal}
 use Rattle.nodes.specs.Nodes.{left_of, right_of, Step, single, beside}
 use Rattle.search.specs.Search.{is_goal, IsFirstPivot}
-use Rattle.shares.specs.Tables.{Rows, Tables, is_doubled, held}
+use Rattle.shares.specs.Tables.{Rows, Tables, Within, is_doubled, held}
 use Rattle.nodes.specs.declared.Steps.{Steps}
 use Rattle.texts.specs.Texts.{letter_at, Showable, ShownText, Shown}
 use Rattle.vetting.specs.declared.Verdict.TheVariants.{Single, Steady, Runaway}
@@ -64,6 +64,9 @@ text_of sets t e e' goal start base is s = subst (Shown sets t e e' goal start b
 module _ {b : Built} {more : List ℕ} (fit : Vettable b more) where
   abbrev g : Graph
   g = graph_of_built b more
+
+  pub within : Within b.follow
+  within u i h = let p = position_of g i (fit.bounded.next_to u i (built_next b more u i ∙ h)) in omega (arith, fit.bounded.few)
 
   own : (a : ℕ) → is_position g a ≡ true → shares g a a ≡ true
   own a h =

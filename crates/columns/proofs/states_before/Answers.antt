@@ -16,7 +16,7 @@ enter-requires c =
     let n = c.args.b.now.positions + 1 in
     let l : at.u < n = omega (arith, length-take-le n c.args.b.now.follow) in
     let row = get_or-take n c.args.b.now.follow at.u 0 l in
-    (λ x here. omega (arith, at.invariant.0, member_below 61 (get_or (take n c.args.b.now.follow) at.u 0) x (omega (arith, row, c.args.b.now.within at.u)) here), omega arith)
+    (λ x here. omega (arith, at.invariant.0, member_below 61 (get_or (take n c.args.b.now.follow) at.u 0) x (omega (arith, row, c.requires at.u)) here), omega arith)
 
 pub loop-u-preserved : goal.loop-u-preserved
 loop-u-preserved c =

@@ -9,6 +9,7 @@ use mir.Syntax.{w32, w64}
 use lib.ListN.{get_or}
 use Rattle.graph.specs.Built.{graph_of_built}
 use Rattle.graph.specs.Taken.{letters_taken}
+use Rattle.graph.proofs.Bounds.{row_below}
 use Rattle.graph.proofs.Taken.{taken_first}
 use Rattle.marks.specs.Answers.{Answered, Summed}
 use Rattle.marks.proofs.Shown.{holders_low, looked_up, built_summed}
@@ -26,6 +27,11 @@ summed c =
       | then-b w ↦ w.links-is ∙ ap (λ (t : Bool). looked_up t a.more) (sym w.if-b.true)
       | else-b w ↦ w.links-is ∙ ap (λ (t : Bool). looked_up t a.more) (sym w.if-b.false)
     ]) c.run-end.ensures
+
+pub states_before-before-requires : goal.states_before-before-requires
+states_before-before-requires c =
+    let b = c.args.b in
+    λ u. let f : Fits w64 (get_or b.follow u 0) = search rules in row_below b c.args.more.now c.requires.0 u f.fits
 
 pub run-end-requires : goal.run-end-requires
 run-end-requires c =

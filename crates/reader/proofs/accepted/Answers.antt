@@ -5,22 +5,15 @@ use native.Mathlib.Omega.{arith}
 use lib.ListN.{length}
 use borrow.Author.Rules.{rules}
 use Rattle.bits.specs.Bits.{has_bit}
-use Rattle.reader.proofs.Building.{first_few, built_shown}
+use Rattle.reader.proofs.Building.{built_shown}
 use Rattle.reader.proofs.accepted.Goals as goal
-
-pub invariant_of-result : goal.invariant_of-result
-invariant_of-result c =
-    let start = c.args in
-    let long : length start.rows ≡ 61 = search rules in
-    record { few = c.requires.0; within = first_few start.rows start.part.firsts (omega arith) c.requires.1 c.requires.2 }
 
 pub returns : goal.returns
 returns c =
     let start = c.args in
     let long : length start.rows ≡ 61 = search rules in
     record {
-      graph = built_shown start.part start.rows start.tables.now.sets start.tables.now.credits c.union_if.result (omega arith) c.requires.0
-          (first_few start.rows start.part.firsts (omega arith) c.requires.1 c.requires.2)
+      graph = built_shown start.part start.rows start.tables.now.sets start.tables.now.credits c.union_if.result (omega arith) c.requires
           (λ j. c.union_if.ensures j ∙ ap (λ (x : Bool). has_bit start.part.lasts j || (start.part.empty && x)) (c.only.ensures j));
       doubled = refl;
     }

@@ -2,10 +2,14 @@
 -- part and both come to an end decides. Assumes nothing.
 use mathlib.Core.Path.{refl}
 use native.Mathlib.Omega.{arith}
+use Rattle.std.proofs.Common.{rules}
 use Rattle.graph.specs.Built.{graph_of_built}
-use Rattle.vetting.proofs.Answering.{tables_of, showable, single_answer, steady_answer}
+use Rattle.vetting.proofs.Answering.{within, tables_of, showable, single_answer, steady_answer}
 use Rattle.vetting.proofs.vet.Goals.{in-None+in-None-show, in-None+in-Some-show, in-Some}
 use Rattle.vetting.proofs.vet.Goals as goal
+
+pub double_rows-requires : goal.double_rows-requires
+double_rows-requires c = (within c.requires.0, λ e u i. search rules)
 
 pub show-requires : goal.show-requires
 show-requires c =
