@@ -1,18 +1,9 @@
 -- All copies are made, and each turn joins one more to the chain. Assumes nothing.
-use mathlib.Core.Path.{◌≡◌, refl}
-use mathlib.Core.Bool.{Bool, true, false, not, true≢false, false≢true}
-use Prim.Native.Nat.{ℕ}
-use Rattle.std.specs.Prelude.{Option, Some, None, is_some, is_none}
+use Rattle.std.proofs.Common.{rules}
+use mathlib.Core.Path.{refl}
 use Rattle.bounds.specs.Bounds.{bounds_of}
 use Rattle.chains.proofs.Growing.{begins, has_room, goes_on, stops}
 use Rattle.chains.proofs.chain.Goals as goal
-
--- without an upper bound
-is_endless : (o : Option ℕ) (endless : Bool) → is_some o ≡ not endless → endless ≡ is_none o
-is_endless None true e = refl
-is_endless None false e = absurd (false≢true e)
-is_endless (Some k) true e = absurd (true≢false e)
-is_endless (Some k) false e = refl
 
 pub loop-i-init : goal.loop-i-init
 loop-i-init c = begins _ _ _ _ _ _ c.requires.2 c.requires.3
@@ -24,4 +15,4 @@ pub loop-i-preserved : goal.loop-i-preserved
 loop-i-preserved c = goes_on _ _ _ _ _ _ c.requires.2 c.requires.3 _ _ _ _ _ c.loop-i.invariant _ _ _ _ c.loop-i-test.true c.next-one.ensures c.join-all.ensures c.union_if-ends.ensures
 
 pub returns : goal.returns
-returns c = stops _ _ _ _ _ _ c.requires.2 c.requires.3 _ _ _ _ _ c.loop-i.invariant _ _ (bounds_of c.args.interval) refl _ (is_endless _ _ c.is_none.ensures) _ _ _ _ c.copy.ensures c.loop-i-test.false c.union_if-back.ensures c.link_again-second.ensures
+returns c = stops _ _ _ _ _ _ c.requires.2 c.requires.3 _ _ _ _ _ c.loop-i.invariant _ _ (bounds_of c.args.interval) refl _ (search rules) _ _ _ _ c.copy.ensures c.loop-i-test.false c.union_if-back.ensures c.link_again-second.ensures

@@ -1,9 +1,8 @@
 -- The atom's contract, and the position's for its set. Where the tables have an entry for it, both get it. Assumes nothing.
-use mathlib.Core.Path.{◌≡◌, refl, sym, ap, subst}
+use mathlib.Core.Path.{◌≡◌, refl, sym, subst}
 use Prim.Native.Nat.{ℕ, ◌+◌, ◌≤◌}
 use native.Mathlib.Omega.{arith}
 use lib.Dec.{eqb}
-use Rattle.pattern.specs.Grammar.{Read}
 use Rattle.pattern.specs.Parts.{letter}
 use Rattle.places.proofs.Rests.{letter_on}
 use Rattle.links.specs.Rows.{Marks}
@@ -12,9 +11,6 @@ use Rattle.parsed.proofs.Storing.{one_stored}
 use Rattle.parsed.proofs.Joining.{gives_as, has_read_letter}
 use Rattle.parsed.proofs.letter.Goals as goal
 use Rattle.parsed.proofs.letter.Goals.{then-k-lt-ROWS, else-k-lt-ROWS}
-
-pub returns-in_err-a : goal.returns-in_err-a
-returns-in_err-a c = rw c.from_residual.ensures (λ rows more. ap (λ (R : Read). R.good) c.in_err-a.ensures)
 
 pub returns : goal.returns
 returns c rows more =
