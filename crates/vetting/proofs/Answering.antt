@@ -40,6 +40,7 @@ use Rattle.search.specs.Search.{is_goal, IsFirstPivot}
 use Rattle.shares.specs.Tables.{Rows, Tables, Within, is_doubled, held}
 use Rattle.nodes.specs.declared.Steps.{Steps}
 use Rattle.texts.specs.Texts.{letter_at, Showable, ShownText, Shown}
+use Rattle.vetting.specs.declared.Verdict.{Verdict}
 use Rattle.vetting.specs.declared.Verdict.TheVariants.{Single, Steady, Runaway}
 use Rattle.vetting.specs.Answers.{Vettable, Reported}
 use Rattle.nodes.proofs.Nodes.{left_low, right_low, sides}
@@ -58,6 +59,11 @@ begins_more p y e e' e'' n m a b h k = grind (arith, common_steps, take_at, drop
 
 pub text_of : (sets : List LetterSet) (t : Steps) (e e' : List ℕ) (goal : Goal) (start base : ℕ) {r : Option ℕ} {n : ℕ} → r ≡ Some n → Shown sets t e e' goal start base r → ShownText sets t e e' goal start base n
 text_of sets t e e' goal start base is s = subst (Shown sets t e e' goal start base) is s
+
+-- ---- the same report, of what the arms of a choice come to
+
+pub report_of : {g : Graph} {e e1 e2 : List ℕ} {v w : Verdict} → e1 ≡ e2 → v ≡ w → Reported g e e2 w → Reported g e e1 v
+report_of {g} {e} {e1} {w = w} same is r = subst (Reported g e e1) (sym is) (subst (λ (x : List ℕ). Reported g e x w) (sym same) r)
 
 -- ---- the tables of a built pattern
 

@@ -4,7 +4,7 @@ use mathlib.Core.Path.{refl}
 use native.Mathlib.Omega.{arith}
 use Rattle.std.proofs.Common.{rules}
 use Rattle.graph.specs.Built.{graph_of_built}
-use Rattle.vetting.proofs.Answering.{within, tables_of, showable, single_answer, steady_answer}
+use Rattle.vetting.proofs.Answering.{within, tables_of, report_of, showable, single_answer, steady_answer}
 use Rattle.vetting.proofs.vet.Goals.{in-None+in-None-show, in-None+in-Some-show, in-Some}
 use Rattle.vetting.proofs.vet.Goals as goal
 
@@ -29,8 +29,8 @@ returns c =
     record {
       positions = refl;
       reports = elim c.match-first_pivot.branch [
-        | in-None+in-None-show w ↦ rw (w.evidence-is, w.verdict-is) (single_answer c.requires.0 tables (w.in-None.ensures g tables refl) w.in-None-show.ensures)
-        | in-None+in-Some-show w ↦ rw (w.evidence-is, w.verdict-is) (steady_answer c.requires.0 tables (w.in-None.ensures g tables refl) w.in-Some-show.ensures)
-        | in-Some w ↦ rw (w.evidence-is, w.verdict-is) w.runaway-verdict.ensures
+        | in-None+in-None-show w ↦ report_of w.evidence-is w.verdict-is (single_answer c.requires.0 tables (w.in-None.ensures g tables refl) w.in-None-show.ensures)
+        | in-None+in-Some-show w ↦ report_of w.evidence-is w.verdict-is (steady_answer c.requires.0 tables (w.in-None.ensures g tables refl) w.in-Some-show.ensures)
+        | in-Some w ↦ report_of w.evidence-is w.verdict-is w.runaway-verdict.ensures
       ];
     }
