@@ -1,10 +1,9 @@
 -- The first u rows are entered. Assumes nothing.
-use Rattle.std.proofs.Common.{◌≡◌, ℕ, ◌+◌, ◌<◌, get_or, take, refl, ◌∙◌, subst, arith}
+use Rattle.std.proofs.Common.{◌+◌, ◌<◌, get_or, take, refl, arith}
 use Rattle.std.proofs.lemmas.List.{get_or-take, length-take-le}
 use Rattle.bits.specs.Bits.{has_bit}
 use Rattle.bits.proofs.Laws.{member_below}
-use Rattle.columns.specs.Tables.{Columns, Entered}
-use Rattle.columns.proofs.Columns.{columns_start, columns_on}
+use Rattle.columns.proofs.Columns.{columns_start}
 use Rattle.columns.proofs.states_before.Goals as goal
 
 pub loop-u-init : goal.loop-u-init
@@ -17,18 +16,3 @@ enter-requires c =
     let l : at.u < n = omega (arith, length-take-le n c.args.b.now.follow) in
     let row = get_or-take n c.args.b.now.follow at.u 0 l in
     (λ x here. omega (arith, at.invariant.0, member_below 61 (get_or (take n c.args.b.now.follow) at.u 0) x (omega (arith, row, c.requires at.u)) here), omega arith)
-
-pub loop-u-preserved : goal.loop-u-preserved
-loop-u-preserved c =
-    let at = c.loop-u in
-    let follow = c.args.b.now.follow in
-    let n = c.args.b.now.positions + 1 in
-    let l : at.u < n = omega (arith, length-take-le n follow) in
-    let e = subst (λ (m : ℕ). Entered (has_bit m) at.u at.table c.enter.new.table) (get_or-take n follow at.u 0 l) c.enter.ensures in
-    (e.size ∙ at.invariant.0, columns_on (λ v i. has_bit (get_or follow v 0) i) at.u at.table c.enter.new.table at.invariant.1 e)
-
-pub returns : goal.returns
-returns c =
-    let at = c.loop-u in
-    let z : at.u ≡ c.args.b.now.positions + 1 = omega (arith, length-take-le (c.args.b.now.positions + 1) c.args.b.now.follow) in
-    subst (λ (n : ℕ). Columns (λ v i. has_bit (get_or c.args.b.now.follow v 0) i) n at.table) z at.invariant.1
