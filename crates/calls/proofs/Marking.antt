@@ -1,16 +1,18 @@
 -- Marking an answer, refusal by refusal: which of the tests decides, and what is promised then. Assumes nothing.
-use mathlib.Core.Path.{◌≡◌, sym, ap, ◌∙◌}
+use mathlib.Core.Path.{◌≡◌, sym, ap, ◌∙◌, subst}
 use mathlib.Core.Bool.{true, not}
 use mathlib.Core.List.{List}
-use Prim.Native.Nat.{ℕ, ◌≤◌, ◌<◌}
+use Prim.Native.Nat.{ℕ, ◌^◌, ◌≤◌, ◌<◌, min}
 use native.Mathlib.Omega.{arith}
 use lib.Dec.{eqb, ltb}
+use lib.IntN.{pos}
 use lib.ListN.{length}
 use borrow.Author.Tests.{eqb-true, eq-eqb, ne_eqb, lt-ltb, le-ltb}
 use Rattle.std.specs.Prelude.{if◌then◌else◌, Ok, Err}
 use Rattle.basics.proofs.Tests.{by_test, if_yes, if_no}
 use Rattle.alphabet.specs.Alphabet.{all_letters}
 use Rattle.graph.specs.Graph.{Graph}
+use Rattle.graph.specs.Readings.{readings, mark}
 use Rattle.graph.specs.Taken.{letters_taken}
 use Rattle.graph.proofs.Taken.{taken_first}
 use Rattle.pattern.specs.Refusals.{pattern_refusal, number_of}
@@ -19,7 +21,6 @@ use Rattle.pattern.specs.Positions.{pattern_graph}
 use Rattle.marks.specs.Answers.{Answered}
 use Rattle.marks.specs.declared.Marked.{Marked}
 use Rattle.calls.specs.Marking.{mark_refusal, MarkSays}
-use Rattle.std.proofs.lemmas.Grind.{common_steps}
 
 module _ (s a : List ℕ) where
   -- ---- which refusal
@@ -52,4 +53,18 @@ module _ (s a : List ℕ) where
   says_refusal e f = record { refusal = sym f; marked = tt }
 
   pub says_mark : (g : Graph) (m : Marked) → g ≡ pattern_graph s → mark_refusal s a ≡ 0 → length a ≤ 4096 → Answered g a m.count m.mark × (m.taken ≡ letters_taken g a) → MarkSays s a (Ok m)
-  says_mark g m e f short given = grind (arith, common_steps, eq-eqb, if_yes, taken_first)
+  says_mark g m e f short given =
+      let h = subst (λ (x : Graph). Answered x a m.count m.mark × (m.taken ≡ letters_taken x a)) e given in
+      let w = h.0 in
+      let t = h.1 in
+      let y : eqb (mark_refusal s a) 0 ≡ true = eq-eqb (mark_refusal s a) 0 f in
+      record {
+        refusal = sym f;
+        marked = record {
+          count = w.counts ∙ sym (if_yes (min (readings (pattern_graph s) a) (2 ^ 63)) 0 (eqb (mark_refusal s a) 0) y);
+          mark = w.marks ∙ sym (if_yes (mark (pattern_graph s) a) (pos 0) (eqb (mark_refusal s a) 0) y);
+          small = let l = w.small in omega arith;
+          taken = t ∙ sym (if_yes (letters_taken (pattern_graph s) a) 0 (eqb (mark_refusal s a) 0) y);
+          few = let l = (taken_first (pattern_graph s) a).within in omega arith;
+        };
+      }
