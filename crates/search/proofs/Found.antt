@@ -28,7 +28,7 @@ use Rattle.shares.specs.Tables.{Rows, Tables}
 use Rattle.nodes.specs.declared.Steps.{Steps}
 use Rattle.nodes.specs.Nodes.{left_of, right_of, Step, single, beside}
 use Rattle.nodes.specs.Taken.{taken}
-use Rattle.search.specs.Search.{queue, is_goal, SoundQueue, Searching, Reached}
+use Rattle.search.specs.Search.{queue, is_goal, SoundQueue, Searching, Reached, Missed}
 use Rattle.nodes.proofs.Nodes.{sides, left_low, right_low, left_high, right_high}
 use Rattle.search.proofs.Visiting.{goal_low, goal_high, complete, way_back}
 use Rattle.search.proofs.Moves.{letter_swap, code_of, code, Held, moved_held, positions, lift_chain, drop_chain}
@@ -51,15 +51,23 @@ both_in m c d = has_bit m c && has_bit m d
 pub found_way : {steps : Steps} {s : List ℕ} {goal : Goal} {u i : ℕ} → Reached steps s goal u i → Way (Step steps) u (queue s i)
 found_way {steps} {s} {i = i} r =
     subst (λ (x : ℕ). Way (Step steps) x (queue s i)) r.first
-    (way_back r.sound i i (le_refl i) r.low (queue s i) (record { nodes = []; goes = tt; ends = refl }))
+    (way_back r.sound i i (le_refl i) (omega (arith, r.last)) (queue s i) (record { nodes = []; goes = tt; ends = refl }))
 
--- no chain leads to a goal
-pub none_found : {steps : Steps} {s : List ℕ} {goal : Goal} {u : ℕ} {w : Search} → Searching steps s goal u w → w.head ≡ w.tail → (c : List ℕ) → Chain (Step steps) u c → is_goal goal (end_of u c) ≡ false
-none_found {steps} {s} {goal} {u} {w} h over c k =
-    let r = h.sound.queue in
-    let done = subst (λ (n : ℕ). SoundQueue (Step steps) (taken w.seen) s n w.tail) over r in
-    let q = complete done c 0 r.begun (subst (λ (x : ℕ). Chain (Step steps) x c) (sym h.first) k) in
-    ap (λ (x : ℕ). is_goal goal (end_of x c)) (sym h.first) ∙ ap (is_goal goal) (sym q.is) ∙ h.none q.at q.low
+-- no node is a goal, and no chain leads to one
+pub none_found : {steps : Steps} {s : List ℕ} {goal : Goal} {u : ℕ} {w : Search} → Searching steps s goal u w → w.head ≡ w.tail → Missed steps s goal u
+none_found {steps} {s} {goal} {u} {w} h over = record {
+  tail = w.tail;
+  is_taken = taken w.seen;
+  sound = done;
+  first = h.first;
+  none = h.none;
+  unmet = λ c k.
+      let q = complete done c 0 done.begun (subst (λ (x : ℕ). Chain (Step steps) x c) (sym h.first) k) in
+      ap (λ (x : ℕ). is_goal goal (end_of x c)) (sym h.first) ∙ ap (is_goal goal) (sym q.is) ∙ h.none q.at q.low;
+}
+  where
+    done : SoundQueue (Step steps) (taken w.seen) s w.tail w.tail
+    done = subst (λ (n : ℕ). SoundQueue (Step steps) (taken w.seen) s n w.tail) over h.sound.queue
 
 -- ---- two paths
 

@@ -41,7 +41,7 @@ module _ {g : Graph} {steps : Steps} (m q : ℕ) (tables : Tables g steps) (only
   pivot_found r = same ∙ reached_parts tables r refl l
 
   pub no_pivot : {s : List ℕ} {w : Search} → Searching steps s (only_at m) q w → w.head ≡ w.tail → is_pivot g q ≡ false
-  no_pivot h over = same ∙ none_parts tables (only_at m) refl q l (none_found h over)
+  no_pivot h over = same ∙ none_parts tables (only_at m) refl q l (none_found h over).unmet
 
 -- no position below q is a pivot of a graph with these tables
 abbrev pub NoneBelow : Steps → ℕ → ℕ → Type 0

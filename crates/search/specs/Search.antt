@@ -82,19 +82,28 @@ pub record Searching (t : Steps) (s : List ℕ) (goal : Goal) (start : ℕ) (w :
   pub first : queue s 0 ≡ start
   pub none : (i : ℕ) → i < w.tail → is_goal goal (queue s i) ≡ false
 
--- the i-th node of the queue is a goal
+-- the i-th node of the queue, its last, is a goal
 pub record Reached (t : Steps) (s : List ℕ) (goal : Goal) (start i : ℕ) : Type 0 where
   pub head : ℕ
   pub tail : ℕ
   pub is_taken : ℕ → Bool
   pub sound : SoundQueue (Step t) is_taken s head tail
   pub first : queue s 0 ≡ start
-  pub low : i < tail
+  pub last : tail ≡ i + 1
   pub meets : is_goal goal (queue s i) ≡ true
 
--- what a search gives: the queue number of a goal, or None, where no chain of steps leads to one
+-- the queue has been gone through, no node of it is a goal, and no chain of steps leads to one
+pub record Missed (t : Steps) (s : List ℕ) (goal : Goal) (start : ℕ) : Type 0 where
+  pub tail : ℕ
+  pub is_taken : ℕ → Bool
+  pub sound : SoundQueue (Step t) is_taken s tail tail
+  pub first : queue s 0 ≡ start
+  pub none : (i : ℕ) → i < tail → is_goal goal (queue s i) ≡ false
+  pub unmet : (nodes : List ℕ) → Chain (Step t) start nodes → is_goal goal (end_of start nodes) ≡ false
+
+-- what a search gives: the queue number of a goal, or None, where there is none
 abbrev pub Searched : Steps → List ℕ → Goal → ℕ → Option ℕ → Type 0
-Searched t s goal start None = (nodes : List ℕ) → Chain (Step t) start nodes → is_goal goal (end_of start nodes) ≡ false
+Searched t s goal start None = Missed t s goal start
 Searched t s goal start (Some i) = Reached t s goal start i
 
 -- the first pivot, which is numbered 0 in the rules where there is none

@@ -163,17 +163,17 @@ leads_back i w l = let few = w.few in record { few = omega arith; lower = λ j p
 
 module _ {t : Steps} {s : List ℕ} {goal : Goal} {u i : ℕ} (r : Reached t s goal u i) where
   pub found_leads_back : LeadsBack s (i + 1)
-  found_leads_back = leads_back i r.sound r.low
+  found_leads_back = leads_back i r.sound (omega (arith, r.last))
 
   pub found_few : 4096 ≤ length s → i ≤ 1890
-  found_few long = omega (arith, few_nodes long r.sound, r.low)
+  found_few long = omega (arith, few_nodes long r.sound, r.last)
 
   pub found_steps : (P : ℕ → Type 0) → ((x y : ℕ) → Step t x y → P y) → (j : ℕ) → 0 < j → j ≤ i → P (queue s j)
-  found_steps P f j l k = f (queue s (back_of s j)) (queue s j) (r.sound.back j l (omega (arith, r.low))).1
+  found_steps P f j l k = f (queue s (back_of s j)) (queue s j) (r.sound.back j l (omega (arith, r.last))).1
 
   pub shown_text : {sets : List LetterSet} {e e' : List ℕ} {base n : ℕ} → 4096 ≤ length s → n ≤ i → Traced sets s e e' i base n → ShownText sets t e e' goal u base n
   shown_text long l tr =
-      let a = along r.sound i 0 tr.nodes r.low tr.way in
+      let a = along r.sound i 0 tr.nodes (omega (arith, r.last)) tr.way in
       record {
         nodes = tr.nodes;
         goes = subst (λ (x : ℕ). Chain (Step t) x tr.nodes) r.first a.goes;
