@@ -43,7 +43,7 @@ pub fn atom(text: &[u8]) -> Option<(Lettered, &[u8])>
 
 // The letters of the atom at the front of a text.
 fn names(text: &[u8]) -> Option<(Named, &[u8])>
-    ensures { ReadsNamed (read_letter text.now) result }
+    ensures { ReadsNamed (read_letter text.now) text.now result }
 {
     match text {
         [b'[', rest @ ..] => classes::class(rest),

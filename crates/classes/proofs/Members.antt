@@ -2,11 +2,11 @@
 use mathlib.Core.Path.{◌≡◌, refl, sym, ap, ap₂, ◌∙◌}
 use mathlib.Core.Bool.{Bool, true, false, ◌&&◌, ◌||◌, not, or_assoc, or-false, and-false}
 use mathlib.Core.List.{List, [], ◌∷◌, ◌++◌}
-use Prim.Native.Nat.{ℕ, zero, suc, ◌-◌, ◌<◌}
+use Prim.Native.Nat.{ℕ, zero, suc, ◌-◌, ◌≤◌, ◌<◌}
 use Prim.Native.Char.{code}
 use native.Mathlib.Omega.{arith}
 use lib.Dec.{eqb, leb, ltb}
-use lib.ListN.{length, drop}
+use lib.ListN.{length, drop, length-drop}
 use borrow.Author.Tests.{ne_eqb}
 use Rattle.alphabet.specs.Alphabet.{is_letter}
 use Rattle.letters.specs.LetterSet.{has_letter}
@@ -42,20 +42,22 @@ and_or : (a b c : Bool) → ((a && b) || (a && c)) ≡ (a && (b || c))
 and_or true b c = refl
 and_or false b c = refl
 
--- so far the loop has read some items of those that the rules read, X; `text` is left, and it is not the class's end
-pub record Sofar (X : Items) (text : List ℕ) (set : LetterSet) (reversed : Bool) : Type 0 where
+-- so far the loop has read some items of those that the rules read, X; `text` is left of the whole, and it is not the class's end
+pub record Sofar (X : Items) (whole text : List ℕ) (set : LetterSet) (reversed : Bool) : Type 0 where
   pub items : List Item
   pub turns : ℕ
+  pub within : length text ≤ length whole
   pub enough : length text < turns
   pub same : X ≡ items_from turns items text
   pub has : (c : ℕ) → has_letter set c ≡ (is_letter c && in_items c items)
   pub turned : reversed ≡ some_reversed items
   pub on : (eqb (peek text) (code "]") && not (eqb (length items) 0)) ≡ false
 
-pub sofar_none : (f : ℕ) (text : List ℕ) (set : LetterSet) → length text < f → ((c : ℕ) → has_letter set c ≡ false) → Sofar (items_from f [] text) text set false
+pub sofar_none : (f : ℕ) (text : List ℕ) (set : LetterSet) → length text < f → ((c : ℕ) → has_letter set c ≡ false) → Sofar (items_from f [] text) text text set false
 sofar_none f text set l h = record {
   items = [];
   turns = f;
+  within = omega arith;
   enough = l;
   same = refl;
   has = λ c. h c ∙ sym (and-false (is_letter c));
@@ -64,8 +66,8 @@ sofar_none f text set l h = record {
 }
 
 -- no item: nothing good
-pub sofar_bad : (X : Items) (text : List ℕ) (set : LetterSet) (reversed : Bool) → Sofar X text set reversed → NoItem text → X.good ≡ false
-sofar_bad X text set reversed w none = go w.turns w.enough w.same
+pub sofar_bad : (X : Items) (whole text : List ℕ) (set : LetterSet) (reversed : Bool) → Sofar X whole text set reversed → NoItem text → X.good ≡ false
+sofar_bad X whole text set reversed w none = go w.turns w.enough w.same
   where
     go : (f : ℕ) → length text < f → X ≡ items_from f w.items text → X.good ≡ false
     go zero l e = absurd (omega arith)
@@ -77,7 +79,7 @@ close_none [] e = refl
 close_none (b ∷ text) e = rw e
 
 -- one item more: the class goes on, or it ends
-module _ (X : Items) (text rest : List ℕ) (i : Range) (set range all : LetterSet) (reversed : Bool) (w : Sofar X text set reversed) (o : OneMore text i rest) (r : (c : ℕ) → has_letter range c ≡ (is_letter c && (leb i.lo c && leb c i.hi))) (j : (c : ℕ) → has_letter all c ≡ (has_letter set c || has_letter range c)) where
+module _ (X : Items) (whole text rest : List ℕ) (i : Range) (set range all : LetterSet) (reversed : Bool) (w : Sofar X whole text set reversed) (o : OneMore text i rest) (r : (c : ℕ) → has_letter range c ≡ (is_letter c && (leb i.lo c && leb c i.hi))) (j : (c : ℕ) → has_letter all c ≡ (has_letter set c || has_letter range c)) where
   abbrev more : List Item
   more = w.items ++ (item i.lo i.hi ∷ [])
 
@@ -92,10 +94,11 @@ module _ (X : Items) (text rest : List ℕ) (i : Range) (set range all : LetterS
   turned_more : (reversed || ltb i.hi i.lo) ≡ some_reversed more
   turned_more = ap (λ (t : Bool). t || ltb i.hi i.lo) w.turned ∙ sym (turned_add w.items (item i.lo i.hi))
 
-  pub sofar_next : (peek rest ≡ code "]" → ⊥) → Sofar X rest all (reversed || ltb i.hi i.lo)
+  pub sofar_next : (peek rest ≡ code "]" → ⊥) → Sofar X whole rest all (reversed || ltb i.hi i.lo)
   sofar_next d = record {
     items = more;
     turns = w.turns - 1;
+    within = omega (arith, w.within, o.shorter);
     enough = let l = w.enough in let k = o.shorter in omega arith;
     same = same_more;
     has = has_more;
@@ -103,7 +106,7 @@ module _ (X : Items) (text rest : List ℕ) (i : Range) (set range all : LetterS
     on = ap (λ (t : Bool). t && not (eqb (length more) 0)) (ne_eqb (peek rest) (code "]") d);
   }
 
-  pub sofar_end : (left : List ℕ) → peek rest ≡ code "]" → left ≡ drop 1 rest → IsItems X record { set = all; reversed = reversed || ltb i.hi i.lo } left
+  pub sofar_end : (left : List ℕ) → peek rest ≡ code "]" → left ≡ drop 1 rest → IsItems X whole record { set = all; reversed = reversed || ltb i.hi i.lo } left
   sofar_end left e l =
       let add : w.turns - 1 ≡ suc (w.turns - 2) = let k = w.enough in let h = o.shorter in omega arith in
       let is : X ≡ items_read true more (drop 1 rest)
@@ -113,4 +116,5 @@ module _ (X : Items) (text rest : List ℕ) (i : Range) (set range all : LetterS
         after = ap (λ (Y : Items). Y.rest) is ∙ sym l;
         has = λ c. has_more c ∙ ap (λ (Y : Items). is_letter c && in_items c Y.items) (sym is);
         turned = turned_more ∙ ap (λ (Y : Items). some_reversed Y.items) (sym is);
+        shorter = omega (arith, w.within, o.shorter, ap length l, length-drop 1 rest);
       }

@@ -35,14 +35,15 @@ ReadsItem text r = Reads r (NoItem text) (OneMore text)
 
 -- ---- all items of a class
 
-pub record IsItems (X : Items) (n : Named) (rest : List ℕ) : Type 0 where
+pub record IsItems (X : Items) (text : List ℕ) (n : Named) (rest : List ℕ) : Type 0 where
   pub good : X.good ≡ true
   pub after : X.rest ≡ rest
   pub has : (c : ℕ) → has_letter n.set c ≡ (is_letter c && in_items c X.items)
   pub turned : n.reversed ≡ some_reversed X.items
+  pub shorter : length rest < length text
 
-abbrev pub ReadsItems : Items → Option (Named × Bor (List ℕ)) → Type 0
-ReadsItems X r = Reads r (X.good ≡ false) (IsItems X)
+abbrev pub ReadsItems : Items → List ℕ → Option (Named × Bor (List ℕ)) → Type 0
+ReadsItems X text r = Reads r (X.good ≡ false) (IsItems X text)
 
 -- ---- the letters of an atom, where R is what the rules read: all but the credit is read
 
@@ -51,11 +52,12 @@ pub record Names (others : Bool) (items : List Item) (n : Named) : Type 0 where
   pub has : (c : ℕ) → has_letter n.set c ≡ holds (atom others items (pos 0)) c
   pub turned : n.reversed ≡ some_reversed items
 
-pub record IsNamed (R : Read) (n : Named) (rest : List ℕ) : Type 0 where
+pub record IsNamed (R : Read) (text : List ℕ) (n : Named) (rest : List ℕ) : Type 0 where
   pub others : Bool
   pub items : List Item
   pub same : R ≡ with_credit others items rest
   pub names : Names others items n
+  pub shorter : length rest < length text
 
-abbrev pub ReadsNamed : Read → Option (Named × Bor (List ℕ)) → Type 0
-ReadsNamed R r = Reads r (R ≡ broken) (IsNamed R)
+abbrev pub ReadsNamed : Read → List ℕ → Option (Named × Bor (List ℕ)) → Type 0
+ReadsNamed R text r = Reads r (R ≡ broken) (IsNamed R text)

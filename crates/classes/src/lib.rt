@@ -18,7 +18,7 @@ pub struct Named {
 
 // A class, after its `[`.
 pub fn class(text: &[u8]) -> Option<(Named, &[u8])>
-    ensures { ReadsNamed (read_class text.now) result }
+    ensures { ReadsNamed (read_class text.now) text.now result }
 {
     match text {
         [b'^', rest @ ..] => {
@@ -32,7 +32,7 @@ pub fn class(text: &[u8]) -> Option<(Named, &[u8])>
 
 // The items of a class, and its `]`.
 fn items(text: &[u8]) -> Option<(Named, &[u8])>
-    ensures { (f : ℕ) → length text.now < f → ReadsItems (items_from f [] text.now) result }
+    ensures { (f : ℕ) → length text.now < f → ReadsItems (items_from f [] text.now) text.now result }
 {
     let mut set = LetterSet::empty();
     let mut reversed = false;

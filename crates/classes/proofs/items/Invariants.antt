@@ -7,7 +7,7 @@ use Rattle.classes.proofs.Members.{Sofar}
 use Rattle.classes.proofs.items.Given as goal
 
 abbrev pub invariant-loop-item : goal.invariant-loop-item
-invariant-loop-item l = (f : ℕ) → length l.text < f → Sofar (items_from f [] l.text) l.left l.set l.reversed
+invariant-loop-item l = (f : ℕ) → length l.text < f → Sofar (items_from f [] l.text) l.text l.left l.set l.reversed
 
 abbrev pub decreases-loop-item : goal.decreases-loop-item
 decreases-loop-item l = length l.left
