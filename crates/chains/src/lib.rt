@@ -7,6 +7,7 @@ ghost use Rattle.bounds.specs.Bounds.{bounds_of};
 ghost use Rattle.chains.specs.Chains.{NextRows, Copied, NextPart, Chains};
 
 use bounds::IntervalRead;
+use copies::Stretch;
 use parsed::Parsed;
 
 // A part, and copies of it after it, each joined to those before. It may end with each copy from the lower bound on; where there is
@@ -64,9 +65,19 @@ fn next_rows(n: usize, doubled: bool, w: usize, rows: &mut [u64; 61], more: &mut
     ensures { NextRows w doubled n rows.old more.old rows.new more.new }
 {
     let from = n - w + 1;
-    copies::rows(rows, from, n + 1, w);
+    let own = Stretch {
+        from,
+        to: n + 1,
+        by: w,
+    };
+    copies::rows(rows, own);
     if doubled {
-        copies::entries(more, 62 * from, 62 * n + 1, 62 * w);
+        let numbers = Stretch {
+            from: 62 * from,
+            to: 62 * n + 1,
+            by: 62 * w,
+        };
+        copies::entries(more, numbers);
     }
 }
 

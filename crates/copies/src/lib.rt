@@ -4,28 +4,38 @@
 ghost use Rattle.std.specs.Prelude.{◌≡◌, ◌+◌, ◌<◌, ◌≤◌, length};
 ghost use Rattle.copies.specs.Copies.{Repeats, Same, Moved};
 
-// Entry i + by becomes entry i, for each i from `from` on below `to`, in rising order.
-pub fn entries<T: Copy>(table: &mut [T], from: usize, to: usize, by: usize)
-    requires { (0 < by) × (from ≤ to) × (to + by ≤ length table.old) }
-    ensures { Repeats Same from to by table.old table.new }
+// A stretch of a table, from `from` on below `to`, and how many entries further on it is copied.
+#[derive(Clone, Copy)]
+pub struct Stretch {
+    pub from: usize,
+    pub to: usize,
+    pub by: usize,
+    pub ghost on: { 0 < by },
+    pub ghost rising: { from ≤ to },
+}
+
+// Entry i + by becomes entry i, for each i of the stretch, in rising order.
+pub fn entries<T: Copy>(table: &mut [T], stretch: Stretch)
+    requires { stretch.to + stretch.by ≤ length table.old }
+    ensures { Repeats Same stretch.from stretch.to stretch.by table.old table.new }
 {
-    copy_on(table, from, to, by, |entry| entry);
+    copy_on(table, stretch, |entry| entry);
 }
 
 // The same in rows of sets, with the members moved on as far as the rows are.
-pub fn rows(rows: &mut [u64; 61], from: usize, to: usize, by: usize)
-    requires { (0 < by) × (from ≤ to) × (to + by ≤ 61) }
-    ensures { Repeats (Moved by) from to by rows.old rows.new }
+pub fn rows(rows: &mut [u64; 61], stretch: Stretch)
+    requires { stretch.to + stretch.by ≤ 61 }
+    ensures { Repeats (Moved stretch.by) stretch.from stretch.to stretch.by rows.old rows.new }
 {
-    copy_on(rows, from, to, by, |row| bits::moved(row, by));
+    copy_on(rows, stretch, |row| bits::moved(row, stretch.by));
 }
 
-// Entry i + by becomes what `change` makes of entry i, for each i from `from` on below `to`, in rising order.
-fn copy_on<T: Copy, F: Fn(T) -> T>(table: &mut [T], from: usize, to: usize, by: usize, change: F)
-    requires { (0 < by) × (from ≤ to) × (to + by ≤ length table.old) × F.IsAlwaysCallable change }
-    ensures { Repeats (F.post change) from to by table.old table.new }
+// Entry i + by becomes what `change` makes of entry i, for each i of the stretch, in rising order.
+fn copy_on<T: Copy, F: Fn(T) -> T>(table: &mut [T], stretch: Stretch, change: F)
+    requires { (stretch.to + stretch.by ≤ length table.old) × F.IsAlwaysCallable change }
+    ensures { Repeats (F.post change) stretch.from stretch.to stretch.by table.old table.new }
 {
-    for i in from..to {
-        table[i + by] = change(table[i]);
+    for i in stretch.from..stretch.to {
+        table[i + stretch.by] = change(table[i]);
     }
 }

@@ -9,6 +9,7 @@ ghost use Rattle.chains.specs.Chains.{how_many};
 ghost use Rattle.repeats.specs.Repeats.{Placed, WritesOut, ReadsRepeat};
 
 use bounds::IntervalRead;
+use copies::Stretch;
 use parsed::{Parsed, Repeat};
 use set_table::Tables;
 
@@ -61,7 +62,12 @@ fn interval(
         return Parsed { n: 61, ..p };
     }
     let end = n + 1 + (copies - 1) * w;
-    tables.repeat(n + 1, end, w);
+    let own = Stretch {
+        from: n + 1,
+        to: end,
+        by: w,
+    };
+    tables.repeat(own);
     chains::chain(p, w, copies, i, rows, more)
 }
 

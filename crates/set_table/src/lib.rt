@@ -5,6 +5,7 @@ ghost use Rattle.std.specs.Prelude.{◌≡◌, false, ℕ, ◌+◌, ◌<◌, ◌
 ghost use Rattle.letters.specs.LetterSet.{has_letter, set_at};
 ghost use Rattle.set_table.specs.Tables.{Writes, Repeats};
 
+use copies::Stretch;
 use letters::LetterSet;
 
 // Entry i is position i's. Credits are raised by 9, so that they have no sign.
@@ -32,12 +33,12 @@ impl Tables {
         self.credits[i] = credit;
     }
 
-    // Entry i + by becomes entry i, for each i from `from` on below `to`, in rising order.
-    pub fn repeat(&mut self, from: usize, to: usize, by: usize)
-        requires { (0 < by) × (from ≤ to) × (to + by ≤ 61) }
-        ensures { Repeats from to by self.old self.new }
+    // Entry i + by becomes entry i, for each i of the stretch, in rising order.
+    pub fn repeat(&mut self, stretch: Stretch)
+        requires { stretch.to + stretch.by ≤ 61 }
+        ensures { Repeats stretch.from stretch.to stretch.by self.old self.new }
     {
-        copies::entries(&mut self.sets, from, to, by);
-        copies::entries(&mut self.credits, from, to, by);
+        copies::entries(&mut self.sets, stretch);
+        copies::entries(&mut self.credits, stretch);
     }
 }

@@ -5,4 +5,4 @@ use Rattle.copies.proofs.Copying.{repeats_as}
 use Rattle.copies.proofs.rows.Goals as goal
 
 pub returns : goal.returns
-returns c = repeats_as _ (Moved c.args.by) (λ x y h. search rules) _ _ _ _ _ c.copy_on.ensures
+returns c = repeats_as _ (Moved c.args.stretch.by) (λ x y h. search rules) _ _ _ _ _ c.copy_on.ensures
