@@ -1,7 +1,7 @@
 -- What a search that is over says of the graph: a search for parted pairs finds one just where `parts_to` holds, and the chain of
 -- nodes that leads to it is two different walks; a search of one path finds a route. Assumes nothing.
 use mathlib.Core.Path.{◌≡◌, refl, sym, ap, ap₂, ◌∙◌, subst}
-use mathlib.Core.Bool.{Bool, true, false, ◌&&◌, not, true≢false, false≢true, and_comm}
+use mathlib.Core.Bool.{Bool, true, false, ◌&&◌, true≢false, false≢true, and_comm}
 use mathlib.Core.List.{List, [], ◌∷◌, map}
 use Prim.Native.Nat.{ℕ, ◌≤◌, ◌<◌}
 use native.Mathlib.Nat.{le_refl}
@@ -23,6 +23,7 @@ use Rattle.verdict.proofs.Pairs.{lefts, rights}
 use Rattle.verdict.proofs.Flags.{Node, node, start, pairs, Moves, Met, number_of, node_low, node_told, same_at}
 use Rattle.verdict.proofs.Parting.{parts_goal, goal_parts}
 use Rattle.search.specs.declared.Goal.{Goal}
+use Rattle.search.specs.declared.Goal.TheVariants.{Parted}
 use Rattle.search.specs.declared.Search.{Search}
 use Rattle.shares.specs.Tables.{Rows, Tables}
 use Rattle.nodes.specs.declared.Steps.{Steps}
@@ -36,8 +37,8 @@ use Rattle.std.proofs.lemmas.Grind.{common_steps}
 
 -- ---- goals
 
-goal_sides : (goal : Goal) (x : ℕ) → 64 ≤ x → is_goal goal x ≡ (has_bit goal.mask (left_of x) && has_bit goal.mask (right_of x))
-goal_sides goal x h = goal_high goal x h ∙ sym (ap₂ (λ a b. has_bit goal.mask a && has_bit goal.mask b) (left_high x h) (right_high x h))
+goal_sides : (m x : ℕ) → 64 ≤ x → is_goal (Parted m) x ≡ (has_bit m (left_of x) && has_bit m (right_of x))
+goal_sides m x h = goal_high (Parted m) x h ∙ sym (ap₂ (λ a b. has_bit m a && has_bit m b) (left_high x h) (right_high x h))
 
 -- the letter shown of a node
 abbrev pub letter_of : Graph → ℕ → ℕ
@@ -72,50 +73,50 @@ none_found {steps} {s} {goal} {u} {w} h over = record {
 -- ---- two paths
 
 module _ {g : Graph} {steps : Steps} (tables : Tables g steps) where
-  goal_code : (goal : Goal) → goal.parted ≡ true → (f : Bool) (t : Pair) → Held g f t → is_goal goal (code_of f t) ≡ (f && both_in goal.mask t.left t.right)
-  goal_code goal p false t h = goal_low goal t.left (omega (arith, h.1)) ∙ ap (λ (x : Bool). not x && has_bit goal.mask t.left) p
-  goal_code goal p true t h = grind (arith, common_steps, sides, positions, goal_sides, and_comm)
+  goal_code : (m : ℕ) (f : Bool) (t : Pair) → Held g f t → is_goal (Parted m) (code_of f t) ≡ (f && both_in m t.left t.right)
+  goal_code m false t h = goal_low (Parted m) t.left (omega (arith, h.1))
+  goal_code m true t h = grind (arith, common_steps, sides, positions, goal_sides, and_comm)
 
   held_end : (u : ℕ) (c : List Node) → u ≤ g.positions → Chain (Moves g) (start u) c → Held g (end_of (start u) c).parted (end_of (start u) c).at
   held_end u c l h = chain_end (Moves g) (λ n. Held g n.parted n.at) (λ n m s k. moved_held g n m s) (start u) c h (refl, l)
 
   -- a chain of nodes to a goal is a chain of moves to a parted pair that passes
-  pub record Parted (goal : Goal) (u : ℕ) (ys : List ℕ) : Type 0 where
+  pub record PartedWay (m u : ℕ) (ys : List ℕ) : Type 0 where
     pub nodes : List Node
     pub goes : Chain (Moves g) (start u) nodes
     pub are : map code nodes ≡ ys
     pub to : Pair
     pub ends : end_of (start u) nodes ≡ node to true
-    pub passes : both_in goal.mask to.left to.right ≡ true
+    pub passes : both_in m to.left to.right ≡ true
 
-  pub parted : (goal : Goal) → goal.parted ≡ true → (u : ℕ) → u ≤ g.positions → (ys : List ℕ) → Chain (Step steps) u ys → is_goal goal (end_of u ys) ≡ true → Parted goal u ys
-  parted goal p u l ys h k =
+  pub parted : (m u : ℕ) → u ≤ g.positions → (ys : List ℕ) → Chain (Step steps) u ys → is_goal (Parted m) (end_of u ys) ≡ true → PartedWay m u ys
+  parted m u l ys h k =
       let c = lift_chain tables (start u) ys (refl, l) h in
       let z = end_of (start u) c.nodes in
       let end : code z ≡ end_of u ys = sym (map_end code (start u) c.nodes) ∙ ap (end_of u) c.are in
-      let both = and_parts z.parted (both_in goal.mask z.at.left z.at.right)
-      (sym (goal_code goal p z.parted z.at (held_end u c.nodes l c.goes)) ∙ ap (is_goal goal) end ∙ k) in
+      let both = and_parts z.parted (both_in m z.at.left z.at.right)
+      (sym (goal_code m z.parted z.at (held_end u c.nodes l c.goes)) ∙ ap (is_goal (Parted m)) end ∙ k) in
       record { nodes = c.nodes; goes = c.goes; are = c.are; to = z.at; ends = λ i. record { at = z.at; parted = both.0 i }; passes = both.1 }
 
   -- what such chains say of `parts_to`
-  pub some_parts : (goal : Goal) → goal.parted ≡ true → (u : ℕ) → u ≤ g.positions → (ys : List ℕ) → Chain (Step steps) u ys → is_goal goal (end_of u ys) ≡ true → parts_to g u (both_in goal.mask) ≡ true
-  some_parts goal p u l ys h k =
-      let m = parted goal p u l ys h k in
-      goal_parts g u (both_in goal.mask) (record { to = m.to; passes = m.passes; way = record { nodes = m.nodes; goes = m.goes; ends = m.ends } })
+  pub some_parts : (m u : ℕ) → u ≤ g.positions → (ys : List ℕ) → Chain (Step steps) u ys → is_goal (Parted m) (end_of u ys) ≡ true → parts_to g u (both_in m) ≡ true
+  some_parts m u l ys h k =
+      let w = parted m u l ys h k in
+      goal_parts g u (both_in m) (record { to = w.to; passes = w.passes; way = record { nodes = w.nodes; goes = w.goes; ends = w.ends } })
 
-  pub none_parts : (goal : Goal) → goal.parted ≡ true → (u : ℕ) → u ≤ g.positions → ((ys : List ℕ) → Chain (Step steps) u ys → is_goal goal (end_of u ys) ≡ false) → parts_to g u (both_in goal.mask) ≡ false
-  none_parts goal p u l none =
-      by_test (parts_to g u (both_in goal.mask))
+  pub none_parts : (m u : ℕ) → u ≤ g.positions → ((ys : List ℕ) → Chain (Step steps) u ys → is_goal (Parted m) (end_of u ys) ≡ false) → parts_to g u (both_in m) ≡ false
+  none_parts m u l none =
+      by_test (parts_to g u (both_in m))
       (λ h.
-      let k = parts_goal g u (both_in goal.mask) h in
+      let k = parts_goal g u (both_in m) h in
       let c = k.way.nodes in
       let end : end_of u (map code c) ≡ code (node k.to true) = map_end code (start u) c ∙ ap code k.way.ends in
       let held = subst (λ (n : Node). Held g n.parted n.at) k.way.ends (held_end u c l k.way.goes) in
-      absurd (true≢false (sym (goal_code goal p true k.to held ∙ k.passes) ∙ ap (is_goal goal) (sym end) ∙ none (map code c) (drop_chain tables (start u) c (refl, l) k.way.goes))))
+      absurd (true≢false (sym (goal_code m true k.to held ∙ k.passes) ∙ ap (is_goal (Parted m)) (sym end) ∙ none (map code c) (drop_chain tables (start u) c (refl, l) k.way.goes))))
       (λ h. h)
 
-  pub reached_parts : {s : List ℕ} {goal : Goal} {u i : ℕ} → Reached steps s goal u i → goal.parted ≡ true → u ≤ g.positions → parts_to g u (both_in goal.mask) ≡ true
-  reached_parts {goal = goal} {u = u} r p l = let v = found_way r in some_parts goal p u l v.nodes v.goes (ap (is_goal goal) v.ends ∙ r.meets)
+  pub reached_parts : {s : List ℕ} {m u i : ℕ} → Reached steps s (Parted m) u i → u ≤ g.positions → parts_to g u (both_in m) ≡ true
+  reached_parts {m = m} {u = u} r l = let v = found_way r in some_parts m u l v.nodes v.goes (ap (is_goal (Parted m)) v.ends ∙ r.meets)
 
   -- ---- the text
 
@@ -136,14 +137,14 @@ module _ {g : Graph} {steps : Steps} (tables : Tables g steps) where
       rest [] k = tt
       rest (m ∷ ms) k = (λ e. k.0 (ap code e), rest ms k.1)
 
-  abbrev pub short_nodes : (goal : Goal) (u : ℕ) (ys : List ℕ) → Apart ys → (m : Parted goal u ys) → Short (Moves g) (longest g) (start u) (node m.to true)
-  short_nodes goal u ys a m = record {
-    nodes = m.nodes;
-    goes = m.goes;
-    ends = m.ends;
+  abbrev pub short_nodes : (m u : ℕ) (ys : List ℕ) → Apart ys → (w : PartedWay m u ys) → Short (Moves g) (longest g) (start u) (node w.to true)
+  short_nodes m u ys a w = record {
+    nodes = w.nodes;
+    goes = w.goes;
+    ends = w.ends;
     few = pigeon (λ (n : Node). number_of g n.parted n.at) (λ (n : Node). Met g n.parted n.at) (longest g) (λ n. node_low g n.parted n.at)
-        (λ n k. node_told g n.parted k.parted n.at k.at) m.nodes (apart_nodes m.nodes (subst Apart (sym m.are) a))
-        (chain_each (Moves g) (λ n. Met g n.parted n.at) (λ n k s. (s.step.placed, same_at g n k s)) (start u) m.nodes m.goes);
+        (λ n k. node_told g n.parted k.parted n.at k.at) w.nodes (apart_nodes w.nodes (subst Apart (sym w.are) a))
+        (chain_each (Moves g) (λ n. Met g n.parted n.at) (λ n k s. (s.step.placed, same_at g n k s)) (start u) w.nodes w.goes);
   }
 
 -- ---- one path

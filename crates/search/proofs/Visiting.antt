@@ -1,8 +1,8 @@
 -- A search goes on: a node is taken up, the head of the queue is passed, a search is begun; and once it is over, each node that a
 -- chain of steps leads to is taken up. Of the queue's nodes no two are one, so there are at most 1891. Assumes nothing.
 use mathlib.Core.Path.{◌≡◌, refl, sym, ap, ◌∙◌, subst}
-use mathlib.Core.Logic.{⊎_elim}
-use mathlib.Core.Bool.{Bool, true, false, not, ◌&&◌, ◌||◌, true≢false}
+use mathlib.Core.Logic.{◌⊎◌, ⊎_elim}
+use mathlib.Core.Bool.{Bool, true, false, ◌&&◌, ◌||◌, true≢false}
 use mathlib.Core.List.{List, [], ◌∷◌}
 use Prim.Native.Nat.{ℕ, zero, suc, ◌+◌, ◌-◌, ◌/◌, ◌%◌, ◌^◌, ◌≤◌, ◌<◌}
 use native.Mathlib.Omega.{arith}
@@ -17,6 +17,7 @@ use Rattle.basics.proofs.Lists.{each_at, apart_at, pigeon}
 use Rattle.bits.specs.Bits.{has_bit}
 use Rattle.verdict.proofs.Chains.{Way}
 use Rattle.search.specs.declared.Goal.{Goal}
+use Rattle.search.specs.declared.Goal.TheVariants.{OnePath, Parted}
 use Rattle.search.specs.declared.Search.{Search}
 use Rattle.nodes.specs.declared.Next.{Next}
 use Rattle.nodes.specs.declared.Node.{Node}
@@ -25,7 +26,7 @@ use Rattle.nodes.specs.declared.Seen.{Seen}
 use Rattle.nodes.specs.declared.Steps.{Steps}
 use Rattle.nodes.specs.Nodes.{IsNode, one, pack, number_of, Fits, Numbered, Step}
 use Rattle.nodes.specs.Taken.{taken, OneTaken, TakenUp, Fresh, Gone, Found, Finds}
-use Rattle.search.specs.Search.{queue, back_of, Queued, SoundQueue, SoundSearch, enqueue, is_goal, Begun, TookUp, Ended, Searching, Reached}
+use Rattle.search.specs.Search.{queue, back_of, Queued, SoundQueue, SoundSearch, enqueue, mask_of, is_goal_state, is_goal, Begun, TookUp, Ended, Searching, Reached}
 use Rattle.nodes.proofs.Nodes.{number, node_low, node_told, numbered_fits, step_node, parts_positions, pack_node, taken_pair, fresh, spent, all_pending}
 use Rattle.std.proofs.lemmas.Grind.{common_steps}
 
@@ -155,20 +156,24 @@ begun E T s x long node takes =
 
 -- ---- goals
 
-pub goal_low : (goal : Goal) (x : ℕ) → x < 64 → is_goal goal x ≡ (not goal.parted && has_bit goal.mask x)
+pub goal_low : (goal : Goal) (x : ℕ) → x < 64 → is_goal goal x ≡ is_goal_state goal x
 unfolding is_goal
-goal_low goal x h = if_yes (not goal.parted && has_bit goal.mask x) (has_bit goal.mask (x / 64) && has_bit goal.mask (x % 64)) (ltb x 64) (lt-ltb x 64 h)
+goal_low goal x h = if_yes (is_goal_state goal x) (has_bit (mask_of goal) (x / 64) && has_bit (mask_of goal) (x % 64)) (ltb x 64) (lt-ltb x 64 h)
 
-pub goal_high : (goal : Goal) (x : ℕ) → 64 ≤ x → is_goal goal x ≡ (has_bit goal.mask (x / 64) && has_bit goal.mask (x % 64))
+pub goal_high : (goal : Goal) (x : ℕ) → 64 ≤ x → is_goal goal x ≡ (has_bit (mask_of goal) (x / 64) && has_bit (mask_of goal) (x % 64))
 unfolding is_goal
-goal_high goal x h = if_no (not goal.parted && has_bit goal.mask x) (has_bit goal.mask (x / 64) && has_bit goal.mask (x % 64)) (ltb x 64) (le-ltb x 64 h)
+goal_high goal x h = if_no (is_goal_state goal x) (has_bit (mask_of goal) (x / 64) && has_bit (mask_of goal) (x % 64)) (ltb x 64) (le-ltb x 64 h)
+
+-- a set that is read from either kind of goal
+pub mask_either : {goal : Goal} {m k : ℕ} → m ≡ k → (goal ≡ OnePath k) ⊎ (goal ≡ Parted k) → m ≡ mask_of goal
+mask_either e is = e ∙ ⊎_elim (λ i. ap mask_of (sym i)) (λ i. ap mask_of (sym i)) is
 
 -- of a node as the program holds it
-pub goal_together : (goal : Goal) {n : Node} {a : ℕ} {r : Bool} → Fits n → n ≡ Together a → r ≡ has_bit goal.mask a → (not goal.parted && r) ≡ is_goal goal (number_of n)
-goal_together goal {a = a} fits is e = grind (arith, common_steps, goal_low)
+pub goal_together : (goal : Goal) {to : Goal} {n : Node} {a : ℕ} {r : Bool} → Fits n → n ≡ Together a → goal ≡ to → r ≡ is_goal_state to a → r ≡ is_goal goal (number_of n)
+goal_together goal {a = a} fits is same e = grind (arith, common_steps, goal_low)
 
-pub goal_parted : (goal : Goal) {n : Node} {a b : ℕ} {r q : Bool} → Fits n → n ≡ Two a b → r ≡ has_bit goal.mask a → q ≡ has_bit goal.mask b → (r && q) ≡ is_goal goal (number_of n)
-goal_parted goal {a = a} {b} fits is e f = grind (arith, common_steps, goal_high)
+pub goal_parted : (goal : Goal) {m : ℕ} {n : Node} {a b : ℕ} {r q : Bool} → Fits n → n ≡ Two a b → m ≡ mask_of goal → r ≡ has_bit m a → q ≡ has_bit m b → (r && q) ≡ is_goal goal (number_of n)
+goal_parted goal {a = a} {b} fits is same e f = grind (arith, common_steps, goal_high)
 
 -- ---- a search
 

@@ -1,11 +1,12 @@
 -- A search under way, breadth first. The queue stands in the lent numbers: the i-th node taken up at i, and at 2048 + i the
 -- queue number of the node before it on the way.
-use Rattle.std.specs.Prelude.{◌≡◌, Bool, true, false, ◌&&◌, not, List, ℕ, ◌+◌, ◌/◌, ◌%◌, ◌≤◌, ◌<◌, ltb, get_or, set, if◌then◌else◌, Option, None, Some}
+use Rattle.std.specs.Prelude.{◌≡◌, Bool, true, false, ◌&&◌, List, ℕ, ◌+◌, ◌/◌, ◌%◌, ◌≤◌, ◌<◌, ltb, get_or, set, if◌then◌else◌, Option, None, Some}
 use Rattle.basics.specs.Lists.{end_of, Chain}
 use Rattle.bits.specs.Bits.{has_bit}
 use Rattle.graph.specs.Graph.{Graph}
 use Rattle.verdict.specs.Verdict.{first_pivot}
 use Rattle.search.specs.declared.Goal.{Goal}
+use Rattle.search.specs.declared.Goal.TheVariants.{OnePath, Parted}
 use Rattle.search.specs.declared.Search.{Search}
 use Rattle.nodes.specs.declared.Node.{Node}
 use Rattle.nodes.specs.declared.Steps.{Steps}
@@ -45,11 +46,21 @@ pub record SoundSearch (t : Steps) (s : List ℕ) (w : Search) : Type 0 where
 unfoldable pub enqueue : List ℕ → ℕ → ℕ → ℕ → List ℕ
 enqueue s y from tail = set (set s tail y) (2048 + tail) from
 
+-- the set that a search is to end in
+abbrev pub mask_of : Goal → ℕ
+mask_of (OnePath m) = m
+mask_of (Parted m) = m
+
+-- for one path a state in the set is a goal, and for two that part no state
+abbrev pub is_goal_state : Goal → ℕ → Bool
+is_goal_state (OnePath m) x = has_bit m x
+is_goal_state (Parted m) x = false
+
 -- both paths are in the set, parted or, for a search of one path, not
 unfoldable pub is_goal : Goal → ℕ → Bool
 is_goal goal x =
-    if ltb x 64 then not goal.parted && has_bit goal.mask x
-    else has_bit goal.mask (x / 64) && has_bit goal.mask (x % 64)
+    if ltb x 64 then is_goal_state goal x
+    else has_bit (mask_of goal) (x / 64) && has_bit (mask_of goal) (x % 64)
 
 -- a search of one node
 pub record Begun (t : Steps) (s : List ℕ) (start : ℕ) (w : Search) : Type 0 where

@@ -11,22 +11,28 @@ ghost use Rattle.shares.specs.Tables.{Tables};
 
 use nodes::{Node, Seen, Steps};
 
-// Where a search is to end: a parted pair in `mask`, or for a search of one path a state in it.
+// Where a search is to end, by a set: for one path a state or a pair in it, else two paths that have parted, both in it.
 #[derive(Clone, Copy)]
-pub struct Goal {
-    pub mask: u64,
-    pub parted: bool,
+pub enum Goal {
+    OnePath(u64),
+    Parted(u64),
 }
 
 impl Goal {
-    // Is a node a goal: a pair in the set or, unless the goal is parted, a state in it.
+    // Is a node a goal.
     fn is_met(self, node: Node) -> bool
         requires { Fits node }
         ensures { result ≡ is_goal self (number_of node) }
     {
         match node {
-            Node::Together(a) => !self.parted & bits::has(self.mask, a),
-            Node::Parted(a, b) => bits::has(self.mask, a) & bits::has(self.mask, b),
+            Node::Together(a) => match self {
+                Goal::OnePath(mask) => bits::has(mask, a),
+                Goal::Parted(_) => false,
+            },
+            Node::Parted(a, b) => {
+                let (Goal::OnePath(mask) | Goal::Parted(mask)) = self;
+                bits::has(mask, a) & bits::has(mask, b)
+            }
         }
     }
 }
@@ -84,10 +90,7 @@ pub fn first_pivot(steps: &Steps, scratch: &mut Scratch, positions: usize) -> Op
 {
     let mut first = None;
     'pivots: for q in 1..=positions {
-        let goal = Goal {
-            mask: bits::only(q),
-            parted: true,
-        };
+        let goal = Goal::Parted(bits::only(q));
         let mut search = Search::begin(&mut *scratch, q);
         while let Some((_, node)) = search.visit(steps, &mut *scratch) {
             if goal.is_met(node) {

@@ -2,7 +2,7 @@
 -- without one twice is short, and its text is that shown for two walks or for a route. Assumes nothing.
 use mathlib.Core.Path.{◌≡◌, refl, sym, ap, ap₂, ◌∙◌, subst}
 use mathlib.Core.Logic.{⊎_elim}
-use mathlib.Core.Bool.{Bool, true, false, ◌&&◌, not, true≢false, false≢true}
+use mathlib.Core.Bool.{Bool, true, ◌&&◌, not, true≢false, false≢true}
 use mathlib.Core.List.{List, [], ◌∷◌, ◌++◌, map, append_assoc}
 use Prim.Native.Nat.{ℕ, ◌+◌, ◌-◌, ◌≤◌, ◌<◌, zero-le}
 use native.Mathlib.Omega.{arith}
@@ -35,6 +35,7 @@ use Rattle.verdict.proofs.Parting.{Parting, short_parting}
 use Rattle.verdict.proofs.Pivots.{first_pivot_is, back_to, Loops, parting_loops}
 use Rattle.verdict.proofs.Shows.{both_last, parting_steady, loops_runaway}
 use Rattle.search.specs.declared.Goal.{Goal}
+use Rattle.search.specs.declared.Goal.TheVariants.{OnePath, Parted}
 use Rattle.nodes.specs.Nodes.{left_of, right_of, Step, single, beside}
 use Rattle.search.specs.Search.{is_goal, IsFirstPivot}
 use Rattle.shares.specs.Tables.{Rows, Tables, Within, is_doubled, held}
@@ -47,7 +48,7 @@ use Rattle.nodes.proofs.Nodes.{left_low, right_low, sides}
 use Rattle.search.proofs.Moves.{shares_swap}
 use Rattle.search.proofs.Visiting.{goal_low}
 use Rattle.search.proofs.Found.{both_in, parted, short_nodes, shown_codes, some_parts, none_parts, letter_of, chain_route, route_chain}
-use Rattle.search.proofs.Pivoting.{only_at, equal_swap}
+use Rattle.search.proofs.Pivoting.{equal_swap}
 use Rattle.std.proofs.lemmas.Grind.{common_steps}
 
 -- ---- texts one after the other
@@ -130,11 +131,11 @@ module _ {b : Built} {more : List ℕ} (fit : Vettable b more) where
     text : map (letter_at b.letters) nodes ≡ walks.text
 
   two_walks : {t : Steps} → Tables g t → {m : ℕ} (test : ℕ → ℕ → Bool) → ((c d : ℕ) → both_in m c d ≡ test c d) → {e e' : List ℕ} {u base r : ℕ} → u ≤ g.positions
-      → (s : ShownText b.letters t e e' (only_at m) u base r) → Walks s.nodes u test
+      → (s : ShownText b.letters t e e' (Parted m) u base r) → Walks s.nodes u test
   two_walks tables {m} test same {u = u} l t =
-      let w = parted tables (only_at m) refl u l t.nodes t.goes t.meets in
+      let w = parted tables m u l t.nodes t.goes t.meets in
       record {
-        walks = short_parting g fit.trim u test w.to (sym (same w.to.left w.to.right) ∙ w.passes) (short_nodes tables (only_at m) u t.nodes t.apart w);
+        walks = short_parting g fit.trim u test w.to (sym (same w.to.left w.to.right) ∙ w.passes) (short_nodes tables m u t.nodes t.apart w);
         text = text_same t.nodes ∙ ap (map (letter_of g)) (sym w.are) ∙ shown_codes tables (start u) w.nodes w.goes;
       }
 
@@ -155,11 +156,8 @@ module _ {b : Built} {more : List ℕ} (fit : Vettable b more) where
   route_end u [] l h = l
   route_end u (i ∷ r) l h = route_end i r (position_of g i h.0).1 h.2
 
-  abbrev state_in : ℕ → Goal
-  state_in m = record { mask = m; parted = false }
-
-  goal_at : (m u : ℕ) (r : List ℕ) → u ≤ g.positions → Route g u r → is_goal (state_in m) (end_of u r) ≡ has_bit m (end_of u r)
-  goal_at m u r l h = goal_low (state_in m) (end_of u r) (omega (arith, route_end u r l h))
+  goal_at : (m u : ℕ) (r : List ℕ) → u ≤ g.positions → Route g u r → is_goal (OnePath m) (end_of u r) ≡ has_bit m (end_of u r)
+  goal_at m u r l h = goal_low (OnePath m) (end_of u r) (omega (arith, route_end u r l h))
 
   -- with no letters shared, a chain of nodes is a route
   record Routed (nodes : List ℕ) (u m : ℕ) : Type 0 where
@@ -169,7 +167,7 @@ module _ {b : Built} {more : List ℕ} (fit : Vettable b more) where
     text : map (letter_at b.letters) nodes ≡ shown g nodes nodes
 
   abbrev ShownRoute : Steps → List ℕ → List ℕ → ℕ → ℕ → ℕ → ℕ → Type 0
-  ShownRoute t e e' m u base r = ShownText b.letters (alone t) e e' (state_in m) u base r
+  ShownRoute t e e' m u base r = ShownText b.letters (alone t) e e' (OnePath m) u base r
 
   routed : {t : Steps} → Tables g t → {m : ℕ} {e e' : List ℕ} {u base r : ℕ} → u ≤ g.positions → (s : ShownRoute t e e' m u base r) → Routed s.nodes u m
   routed {t} tables {m} {u = u} l s =
@@ -183,7 +181,7 @@ module _ {b : Built} {more : List ℕ} (fit : Vettable b more) where
 
   -- where there is a route, a search finds one
   route_some : {t : Steps} → Tables g t → (m : ℕ) (e e' : List ℕ) {u : ℕ} (base : ℕ) (r : Option ℕ) (c : List ℕ) → u ≤ g.positions → Route g u c → has_bit m (end_of u c) ≡ true
-      → Shown b.letters (alone t) e e' (state_in m) u base r → IsSome r
+      → Shown b.letters (alone t) e e' (OnePath m) u base r → IsSome r
   route_some {t} tables m e e' {u} base None c l h k s = grind (arith, common_steps, true≢false, goal_at, route_chain)
   route_some tables m e e' base (Some r) c l h k s = refl
 
@@ -193,19 +191,19 @@ module _ {b : Built} {more : List ℕ} (fit : Vettable b more) where
   verdict_low z = if_no 2 (if ambiguous g then 1 else 0) (not (eqb (first_pivot g) 0)) (ap not (eq-eqb (first_pivot g) 0 z))
 
   module _ {t : Steps} (tables : Tables g t) (none : first_pivot g ≡ 0) {e e' : List ℕ} where
-    pub single_answer : Shown b.letters t e e' (only_at b.lasts) 0 0 None → Reported g e e' Single
+    pub single_answer : Shown b.letters t e e' (Parted b.lasts) 0 0 None → Reported g e e' Single
     single_answer n = record {
-      verdict_is = sym (verdict_low none ∙ if_no 1 0 (ambiguous g) (none_parts tables (only_at b.lasts) refl 0 zero-le n.1));
+      verdict_is = sym (verdict_low none ∙ if_no 1 0 (ambiguous g) (none_parts tables b.lasts 0 zero-le n.1));
       shows = record { first = refl; second = refl; third = refl; kept = n.0 };
     }
 
-    pub steady_answer : {r : ℕ} → ShownText b.letters t e e' (only_at b.lasts) 0 0 r → Reported g e e' (Steady r)
+    pub steady_answer : {r : ℕ} → ShownText b.letters t e e' (Parted b.lasts) 0 0 r → Reported g e e' (Steady r)
     steady_answer {r} s =
         let w = two_walks tables (both_last g) (λ c d. refl) zero-le s in
         let text = map (letter_at b.letters) s.nodes in
         let size : length text ≡ r = length-map s.nodes (letter_at b.letters) ∙ s.size in
         record {
-          verdict_is = sym (verdict_low none ∙ if_yes 1 0 (ambiguous g) (some_parts tables (only_at b.lasts) refl 0 zero-le s.nodes s.goes s.meets));
+          verdict_is = sym (verdict_low none ∙ if_yes 1 0 (ambiguous g) (some_parts tables b.lasts 0 zero-le s.nodes s.goes s.meets));
           shows = record {
             text = text;
             shows = subst (ShowsSteady g) (sym w.text) (parting_steady g w.walks);
@@ -243,26 +241,26 @@ module _ {b : Built} {more : List ℕ} (fit : Vettable b more) where
 
     -- each of the three searches finds its goal; m is the set of q alone
     module _ {t : Steps} (tables : Tables g t) (m : ℕ) (only : (j : ℕ) → has_bit m j ≡ eqb q j) where
-      pub way_in_some : (e e' : List ℕ) (r : Option ℕ) → Shown b.letters (alone t) e e' (state_in m) 0 0 r → IsSome r
+      pub way_in_some : (e e' : List ℕ) (r : Option ℕ) → Shown b.letters (alone t) e e' (OnePath m) 0 0 r → IsSome r
       way_in_some e e' r = route_some tables m e e' 0 r useful.way_in zero-le useful.goes_in (only (end_of 0 useful.way_in) ∙ eq-eqb q (end_of 0 useful.way_in) (sym useful.comes))
 
       pub way_in_short : {e e' : List ℕ} {r : ℕ} → ShownRoute t e e' m 0 0 r → r ≤ 60
       way_in_short s = omega (arith, (routed tables zero-le s).short, s.size, fit.bounded.few)
 
-      pub way_out_some : (e e' : List ℕ) (base : ℕ) (r : Option ℕ) → Shown b.letters (alone t) e e' (state_in b.lasts) q base r → IsSome r
+      pub way_out_some : (e e' : List ℕ) (base : ℕ) (r : Option ℕ) → Shown b.letters (alone t) e e' (OnePath b.lasts) q base r → IsSome r
       way_out_some e e' base r = route_some tables b.lasts e e' base r useful.way_out low useful.goes_out useful.ends
 
       back_same : (c d : ℕ) → both_in m c d ≡ back_to q c d
       back_same c d = ap₂ ◌&&◌ (only c ∙ equal_swap q c) (only d ∙ equal_swap q d)
 
-      pub loops_some : (e e' : List ℕ) (base : ℕ) (r : Option ℕ) → Shown b.letters t e e' (only_at m) q base r → IsSome r
+      pub loops_some : (e e' : List ℕ) (base : ℕ) (r : Option ℕ) → Shown b.letters t e e' (Parted m) q base r → IsSome r
       loops_some e e' base None s =
           let same : both_in m ≡ back_to q = λ i c d. back_same c d i in
-          absurd (true≢false (sym first.1 ∙ ap (parts_to g q) (sym same) ∙ none_parts tables (only_at m) refl q low s.1))
+          absurd (true≢false (sym first.1 ∙ ap (parts_to g q) (sym same) ∙ none_parts tables m q low s.1))
       loops_some e e' base (Some r) s = refl
 
       -- the three texts
-      pub runaway_answer : {e e1 e2 e3 : List ℕ} {x y z : ℕ} → ShownRoute t e e1 m 0 0 x → ShownText b.letters t e1 e2 (only_at m) q x y → ShownRoute t e2 e3 b.lasts q (x + y) z
+      pub runaway_answer : {e e1 e2 e3 : List ℕ} {x y z : ℕ} → ShownRoute t e e1 m 0 0 x → ShownText b.letters t e1 e2 (Parted m) q x y → ShownRoute t e2 e3 b.lasts q (x + y) z
           → Reported g e e3 (Runaway x y z)
       runaway_answer {e} {e1} {e2} {e3} {x} {y} {z} tx ty tz =
           let i = routed tables zero-le tx in

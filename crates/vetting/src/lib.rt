@@ -42,10 +42,7 @@ pub fn vet(b: Built, more: &[u8; 3721], evidence: &mut [u8], scratch: &mut [u16]
     let mut scratch = Scratch { numbers: scratch };
     let verdict = match search::first_pivot(&steps, &mut scratch, b.positions) {
         None => {
-            let goal = Goal {
-                mask: b.lasts,
-                parted: true,
-            };
+            let goal = Goal::Parted(b.lasts);
             match texts::show(&steps, &b.letters, &mut scratch, &mut *evidence, goal, 0, 0) {
                 None => Verdict::Single,
                 Some(n) => Verdict::Steady { text: n as u32 },
@@ -77,18 +74,9 @@ fn runaway(
         ..*steps
     };
     let here = bits::only(q);
-    let arrive = Goal {
-        mask: here,
-        parted: false,
-    };
-    let loops = Goal {
-        mask: here,
-        parted: true,
-    };
-    let leave = Goal {
-        mask: b.lasts,
-        parted: false,
-    };
+    let arrive = Goal::OnePath(here);
+    let loops = Goal::Parted(here);
+    let leave = Goal::OnePath(b.lasts);
     let x = texts::show(&one_path, sets, &mut *scratch, &mut *evidence, arrive, 0, 0).unwrap();
     let y = texts::show(steps, sets, &mut *scratch, &mut *evidence, loops, q, x).unwrap();
     let z = texts::show(

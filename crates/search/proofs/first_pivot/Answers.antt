@@ -1,14 +1,15 @@
 -- The outer loop has passed positions that are no pivots; the inner one is a search from q for both paths back at q. Assumes nothing.
 use mathlib.Core.Path.{refl, sym, subst, ◌∙◌}
 use native.Mathlib.Omega.{arith}
+use Rattle.search.specs.declared.Goal.TheVariants.{Parted}
 use Rattle.search.specs.Search.{IsFirstPivot}
-use Rattle.search.proofs.Visiting.{search_first, search_found, search_over}
-use Rattle.search.proofs.Pivoting.{start_no_goal, none_more, pivot_first, none_first}
+use Rattle.search.proofs.Visiting.{goal_low, search_first, search_found, search_over}
+use Rattle.search.proofs.Pivoting.{none_more, pivot_first, none_first}
 use Rattle.search.proofs.first_pivot.Goals as goal
 
 pub loop-node-init : goal.loop-node-init
 loop-node-init c =
-    (refl, search_first (c.begin-search.ensures c.args.steps.now) (start_no_goal c.only.result c.pivots.q (omega (arith, c.requires, c.pivots-test.true))))
+    (refl, search_first (c.begin-search.ensures c.args.steps.now) (goal_low (Parted c.only.result) c.pivots.q (omega (arith, c.requires, c.pivots-test.true))))
 
 pub pivots-preserved : goal.pivots-preserved
 pivots-preserved c =
