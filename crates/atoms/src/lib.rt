@@ -1,4 +1,4 @@
-// Lettered atoms: one letter, `.` or a class, and the credit after it. Every function reads the front of any text, and gives what it
+// Lettered atoms: one letter, `.` or a class, and the credit after it. What is read is at the front of any text: a function gives what it
 // read and the text after it, or `None` where the grammar has nothing good there.
 #![tactic(auto)]
 

@@ -94,8 +94,7 @@ pub fn lowest(mask: u64) -> usize
     mask.trailing_zeros() as usize
 }
 
-// All members but the least of a set that is not empty. The number falls, so the set itself is the measure of a loop
-// that takes one member at a time.
+// All members but the least of a set that is not empty. The number falls, and is the weight by which a walk of the set ends.
 pub fn rest(mask: u64) -> u64
     requires { 0 < mask }
     ensures { (result < mask) × ((t : ℕ) → Least mask t → Less (has_bit mask) t (has_bit result)) }

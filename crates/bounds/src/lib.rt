@@ -1,4 +1,4 @@
-// The interval after an atom, from the byte after its `{` on. Every function reads the front of any text.
+// The interval after an atom, from the byte after its `{` on, and its bounds. What is read is at the front of any text.
 #![tactic(auto)]
 
 ghost use Rattle.std.specs.Prelude.{◌≡◌, ◌≤◌};

@@ -1,4 +1,4 @@
-// Classes of letters in `[ ]`: their items, each one letter or a range. Every function reads the front of any text, and gives what it
+// Classes of letters in `[ ]`: their items, each one letter or a range. What is read is at the front of any text: a function gives what it
 // read and the text after it, or `None` where the grammar has nothing good there.
 #![tactic(auto)]
 

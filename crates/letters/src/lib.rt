@@ -166,8 +166,7 @@ impl LetterSet {
         }
     }
 
-    // All letters but the lowest of a set that is not empty. The weight falls, and is the measure of a loop that takes one
-    // letter at a time.
+    // All letters but the lowest of a set that is not empty. The weight falls, so that a walk of the set ends.
     pub fn rest(self) -> LetterSet
         requires { Some self }
         ensures { (weight result < weight self) × ((t : ℕ) → LeastLetter self t → Less (has_letter self) t (has_letter result)) }

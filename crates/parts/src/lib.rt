@@ -1,6 +1,7 @@
 // Patterns, branches and pieces in one pass: three functions that call each other, as those of the grammar do. What they share
-// goes through them from left to right: the rows of what may follow by value, so that each call gives them back with its own
-// links, and the tables of letters, of credits and of links beyond the first, which are lent and filled as the atoms are read.
+// goes through them from left to right: the rows of what may follow, which a pattern is given by value, lends to its branches and gives
+// back with its own links, and the tables of letters, of credits and of links beyond the first, which are lent and filled as the atoms
+// are read.
 // Patterns and branches are folded from the left: one part has been read, and the next is joined to it. Each function reads the front
 // of any text.
 #![tactic(auto)]

@@ -1,3 +1,3 @@
-// Verdicts: two paths side by side, pivots, and what a verdict shows. There is no code here yet.
+// Verdicts: two paths side by side, pivots, and what a verdict shows. There is no code here.
 
 #![tactic(auto)]
