@@ -34,7 +34,7 @@ extern "C" {
 
 /* The least that is asked for. */
 #define MARKING_EVIDENCE 4096       /* bytes of evidence */
-#define MARKING_SCRATCH 8192        /* numbers of scratch */
+#define MARKING_SCRATCH 4096        /* numbers of scratch */
 #define MARKING_STACK (1536 * 1024) /* bytes of stack */
 
 /* The count that means 'so many or more'. Every smaller one is exact. */
@@ -100,7 +100,10 @@ struct marking_marked {
  */
 uint64_t marking_vet(const uint8_t *pattern, size_t pattern_len, uint8_t *evidence, size_t evidence_len);
 
-/* The same in scratch that the caller lends, which after a verdict may hold anything. marking_vet brings its own, on the stack. */
+/*
+ * The same in scratch that the caller lends: after a verdict its first MARKING_SCRATCH numbers may hold anything, and those beyond are
+ * not touched. marking_vet brings its own, on the stack.
+ */
 uint64_t marking_vet_in(const uint8_t *pattern, size_t pattern_len, uint8_t *evidence, size_t evidence_len, uint16_t *scratch,
                         size_t scratch_len);
 

@@ -136,6 +136,9 @@ static void whole_slices(void) {
     running = "vet_in, slices at the end of memory";
     check(marking_vet_unpack(marking_vet_in(pattern, strlen(runaway), evidence, MARKING_EVIDENCE, scratch, MARKING_SCRATCH)).verdict ==
           MARKING_RUNAWAY);
+    running = "vet_in, more scratch is said to be lent, and memory ends where the numbers end that are used";
+    check(marking_vet_unpack(marking_vet_in(pattern, strlen(runaway), evidence, MARKING_EVIDENCE, scratch, 2 * MARKING_SCRATCH))
+              .verdict == MARKING_RUNAWAY);
     running = "vet_in, the widest search";
     for (size_t i = 0; i < sizeof widest; i++)
         widest[i] = "a?"[i % 2];

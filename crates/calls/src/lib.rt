@@ -12,13 +12,13 @@ use vetting::Vetted;
 // What vetting is lent at least: bytes of evidence, numbers of scratch.
 const LEAST_EVIDENCE: usize = 4096;
 
-const LEAST_SCRATCH: usize = 8192;
+const LEAST_SCRATCH: usize = 4096;
 
 // The longest answer, in bytes.
 const LONGEST_ANSWER: usize = 4096;
 
-// Vets a pattern. The evidence gets the texts that show the verdict, and beyond them keeps its old bytes; scratch may hold
-// anything before, and does after. At a refusal both keep what they hold.
+// Vets a pattern. The evidence gets the texts that show the verdict, and beyond them keeps its old bytes. Scratch may hold anything
+// before, and its first 4,096 numbers do after; those beyond are not touched. At a refusal both keep what they hold.
 pub fn vet_pattern(
     pattern: &[u8],
     evidence: &mut [u8],
@@ -34,7 +34,7 @@ pub fn vet_pattern(
     }
     let mut more = [0u8; 3721];
     let built = reader::read(pattern, &mut more)?;
-    Ok(vetting::vet(built, &more, evidence, scratch))
+    Ok(vetting::vet(built, &more, evidence, &mut scratch[..LEAST_SCRATCH]))
 }
 
 // Marks an answer by a pattern.

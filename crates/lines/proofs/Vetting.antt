@@ -1,5 +1,5 @@
 -- The line of a pattern by what vetting it gave. Assumes nothing.
-use mathlib.Core.Path.{◌≡◌, sym, ap, ap₂, ◌∙◌}
+use mathlib.Core.Path.{◌≡◌, ap, ap₂, ◌∙◌}
 use mathlib.Core.List.{List}
 use Prim.Native.Nat.{ℕ, ◌≤◌}
 use native.Mathlib.Omega.{arith}
@@ -19,7 +19,7 @@ use Rattle.fields.proofs.Fields.{line_refused}
 use Rattle.lines.specs.Lines.{line_of}
 
 -- `vet_pattern` gave r of the pattern s, with evidence and scratch that are large enough; the line has the number n
-module _ (s e e' w w' : List ℕ) (long : 4096 ≤ length e) (wide : 8192 ≤ length w) (n : ℕ) where
+module _ (s e e' w w' : List ℕ) (long : 4096 ≤ length e) (wide : 4096 ≤ length w) (n : ℕ) where
   pub line_is : (r : Result Vetted Refusal) → VetSays s e e' w w' r → outcome_line n r ≡ line_of n s
   unfolding line_of
   line_is (Ok v) says =

@@ -69,7 +69,7 @@ fn pattern_line(number: u64, pattern: &[u8], out: &mut [u8]) -> usize
     ensures short { result ≤ 18 }
 {
     let mut evidence = [0u8; 4096];
-    let mut scratch = [0u16; 8192];
+    let mut scratch = [0u16; 4096];
     let vetted = marking::vet_pattern(pattern, &mut evidence, &mut scratch);
     fields::put_result(number, vetted, out, 0)
 }

@@ -9,7 +9,7 @@ use Prim.Native.Nat.{ℕ, ◌+◌, ◌*◌, ◌^◌, ◌≤◌, ◌<◌, min}
 use native.Mathlib.Omega.{arith}
 use lib.Dec.{eqb}
 use lib.IntN.{ℤ, pos, nat_abs}
-use lib.ListN.{length, take}
+use lib.ListN.{length, take, get_or}
 use lib.Signed.{◌≤ℤ◌}
 use borrow.Author.Tests.{eq-eqb}
 use Rattle.std.specs.Prelude.{Result, Ok, Err}
@@ -130,8 +130,10 @@ pub record VetKeeps (b e e' w w' : List ℕ) (r : VetFields) : Type 0 where
   pub refusal_alone : (r.refusal ≡ 0 → ⊥) → r ≡ refused r.refusal
   pub refusal_keeps : (r.refusal ≡ 0 → ⊥) → (e' ≡ e) × (w' ≡ w)
   -- An accepted pattern with enough memory always gets a verdict.
-  pub accepted_gets_verdict : pattern_refusal b ≡ 0 → 4096 ≤ length e → 8192 ≤ length w → r.refusal ≡ 0
+  pub accepted_gets_verdict : pattern_refusal b ≡ 0 → 4096 ≤ length e → 4096 ≤ length w → r.refusal ≡ 0
   pub true_verdict : r.refusal ≡ 0 → TrueVerdict b e e' r
+  -- Of scratch no call writes more than the first 4,096 numbers.
+  pub scratch_beyond : (i : ℕ) → 4096 ≤ i → get_or w' i 0 ≡ get_or w i 0
 
 -- Two vettings of one pattern, by any of the calls and in any two memories, give the same verdict and p.
 pub same_verdict : {b e e' f f' : List ℕ} {r q : VetFields} → TrueVerdict b e e' r → TrueVerdict b f f' q → (r.verdict ≡ q.verdict) × (r.positions ≡ q.positions)
@@ -250,6 +252,7 @@ module _ (b e e' w w' : List ℕ) where
     refusal_keeps = λ d. absurd (d refl);
     accepted_gets_verdict = λ a l k. refl;
     true_verdict = λ z. true_verdict v (Vetting.accepts b (length e) (length w) (sym says.refusal)) says.outcome.judged;
+    scratch_beyond = says.outcome.beyond;
   }
   vet_pattern_keeps (Err x) says = grind (arith, common_steps)
 
@@ -262,5 +265,5 @@ pub marking_vet_in_keeps : (b e e' w w' : List ℕ) (n : ℕ) → VetForC b e e'
 marking_vet_in_keeps b e e' w w' n h = subst (VetKeeps b e e' w w') (sym (vet_fields b e e' w w' n h)) (vet_pattern_keeps b e e' w w' h.vetted h.says)
 
 -- `marking_vet` gave n: the same, and there is always enough scratch.
-pub marking_vet_keeps : (b e e' : List ℕ) (n : ℕ) → VetAlone b e e' n → (w : List ℕ) × (w' : List ℕ) × (length w ≡ 8192) × VetKeeps b e e' w w' (vet_unpacked n)
+pub marking_vet_keeps : (b e e' : List ℕ) (n : ℕ) → VetAlone b e e' n → (w : List ℕ) × (w' : List ℕ) × (length w ≡ 4096) × VetKeeps b e e' w w' (vet_unpacked n)
 marking_vet_keeps b e e' n h = (h.scratch, h.left, h.enough, marking_vet_in_keeps b e e' h.scratch h.left n h.vets)

@@ -13,11 +13,11 @@ pub record VetForC (s e e' w w' : List ℕ) (packed : ℕ) : Type 0 where
   pub says : VetSays s e e' w w' vetted
   pub packing : packed ≡ vet_packed (vet_fields_of vetted)
 
--- the same where the library brings the scratch, 8,192 numbers, whatever they are before and after
+-- the same where the library brings the scratch, 4,096 numbers, whatever they are before and after
 pub record VetAlone (s e e' : List ℕ) (packed : ℕ) : Type 0 where
   pub scratch : List ℕ
   pub left : List ℕ
-  pub enough : length scratch ≡ 8192
+  pub enough : length scratch ≡ 4096
   pub vets : VetForC s e e' scratch left packed
 
 -- [Memory] the number that C is lent: the count where there is no refusal, else what was there

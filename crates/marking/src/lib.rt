@@ -22,7 +22,7 @@ pub fn marking_vet_in(pattern: &[u8], evidence: &mut [u8], scratch: &mut [u16]) 
 pub fn marking_vet(pattern: &[u8], evidence: &mut [u8]) -> u64
     ensures { VetAlone pattern.now evidence.old evidence.new result }
 {
-    let mut scratch = [0u16; 8192];
+    let mut scratch = [0u16; 4096];
     marking_vet_in(pattern, evidence, &mut scratch)
 }
 

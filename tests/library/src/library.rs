@@ -21,6 +21,9 @@ pub enum Marked {
 
 const GUARD: usize = 64;
 
+/// The numbers of scratch that vetting asks for and uses. Of more that are lent the rest stay as they are.
+pub const SCRATCH: usize = 4096;
+
 /// What the evidence memory holds before a call: not constant, so that a moved byte shows.
 fn old_byte(seed: u8, i: usize) -> u8 {
     (i as u8).wrapping_mul(31).wrapping_add(seed)
@@ -37,9 +40,9 @@ pub fn vet_in(pattern: &[u8], evidence_len: usize, scratch_len: usize, seed: u8)
     let before = scratch.clone();
     let lent = unsafe { scratch.as_mut_ptr().add(GUARD) };
     let got = watched(evidence_len, seed, |evidence| unsafe { marking_vet_in(pattern.as_ptr(), pattern.len(), evidence, evidence_len, lent, scratch_len) });
-    let end = GUARD + scratch_len;
+    let end = GUARD + scratch_len.min(SCRATCH);
     if scratch[..GUARD] != before[..GUARD] || scratch[end..] != before[end..] {
-        return Err("memory beside the scratch changed".into());
+        return Err("memory beside the scratch changed, or past what is used of it".into());
     }
     if matches!(got, Ok(Vetted::Refused(_))) && scratch != before {
         return Err("scratch changed by a refusal".into());

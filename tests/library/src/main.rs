@@ -11,7 +11,7 @@ mod pages;
 mod posix;
 mod random;
 
-use library::{mark, mark_bits, vet, vet_in, Marked, Vetted};
+use library::{mark, mark_bits, vet, vet_in, Marked, Vetted, SCRATCH};
 use random::Random;
 use std::collections::BTreeSet;
 
@@ -879,7 +879,7 @@ fn credits_apart(t: &mut Tally) {
 /// Refused by vet, by vet in lent scratch and by mark, and by the model; no memory is changed.
 fn refused_everywhere(t: &mut Tally, pattern: &[u8], refusal: u8) {
     refused_as_in_model(t, pattern, refusal);
-    t.same(vet_in(pattern, EVIDENCE, 8192, 11), Ok(Vetted::Refused(refusal)), &format!("vet {} in lent scratch", show(pattern)));
+    t.same(vet_in(pattern, EVIDENCE, SCRATCH, 11), Ok(Vetted::Refused(refusal)), &format!("vet {} in lent scratch", show(pattern)));
 }
 
 /// Accepted, with so many positions, and what the model has.
@@ -947,7 +947,7 @@ fn intervals(t: &mut Tally) {
     for (pattern, verdict, positions) in verdicts {
         verdict_is(t, pattern, verdict);
         accepted(t, pattern, positions);
-        t.same(vet_in(pattern, EVIDENCE, 8192, 3), vet(pattern, EVIDENCE, 3), &format!("vet {} in lent scratch", show(pattern)));
+        t.same(vet_in(pattern, EVIDENCE, SCRATCH, 3), vet(pattern, EVIDENCE, 3), &format!("vet {} in lent scratch", show(pattern)));
     }
     let counted: [(&[u8], &[u8], u64, i32); 44] = [
         (b"a{3}", b"aaa", 1, 0),
@@ -1188,7 +1188,7 @@ fn interval_refusals(t: &mut Tally) {
             refused_everywhere(t, &[b"[^ -\xff]", pattern.as_bytes(), b"[z-a]"].concat(), 6);
             refused_everywhere(t, &[pattern.as_bytes(), b"\t"].concat(), 4);
             t.same(vet(pattern.as_bytes(), 4095, 1), Ok(Vetted::Refused(1)), "refusal 1 before 11");
-            t.same(vet_in(pattern.as_bytes(), EVIDENCE, 8191, 1), Ok(Vetted::Refused(2)), "refusal 2 before 11");
+            t.same(vet_in(pattern.as_bytes(), EVIDENCE, 4095, 1), Ok(Vetted::Refused(2)), "refusal 2 before 11");
             t.same(mark(pattern.as_bytes(), &[10; 4097]), Ok(Marked::Refused(11)), "refusal 11 before 9 and 10");
         }
     }
@@ -1795,14 +1795,17 @@ fn scratch(t: &mut Tally) {
     let stars = b"a*".repeat(60);
     for p in [&b"colou?r"[..], b"(a|a)b", b"(a|b|ab)*c", b"(\xe9|[a-\xff])*", &stars] {
         for seed in 0..4 {
-            t.same(vet_in(p, EVIDENCE, 8192, seed), vet(p, EVIDENCE, seed), &format!("vet {} in lent scratch", show(p)));
+            for numbers in [4096, 4097, 8192, 9000] {
+                t.same(vet_in(p, EVIDENCE, numbers, seed), vet(p, EVIDENCE, seed), &format!("vet {} in {numbers} numbers", show(p)));
+            }
         }
-        t.same(vet_in(p, EVIDENCE, 9000, 5), vet(p, EVIDENCE, 5), &format!("vet {} in more scratch", show(p)));
-        t.same(vet_in(p, EVIDENCE, 8191, 5), Ok(Vetted::Refused(2)), "8,191 numbers of scratch");
+        for numbers in [0, 1, 4095] {
+            t.same(vet_in(p, EVIDENCE, numbers, 5), Ok(Vetted::Refused(2)), &format!("{numbers} numbers of scratch"));
+        }
     }
-    t.same(vet_in(b"a", 4095, 8191, 6), Ok(Vetted::Refused(1)), "refusal 1 before 2");
+    t.same(vet_in(b"a", 4095, 4095, 6), Ok(Vetted::Refused(1)), "refusal 1 before 2");
     t.same(vet_in(b"(", EVIDENCE, 0, 6), Ok(Vetted::Refused(2)), "refusal 2 before 5");
-    t.same(vet_in(b"(", EVIDENCE, 8192, 6), Ok(Vetted::Refused(5)), "refusal 5 in lent scratch");
+    t.same(vet_in(b"(", EVIDENCE, SCRATCH, 6), Ok(Vetted::Refused(5)), "refusal 5 in lent scratch");
 }
 
 /// Calls from several threads at once give what one thread is given.
@@ -1810,7 +1813,7 @@ fn threads(t: &mut Tally) {
     let mut r = Random::new(77);
     let patterns: Vec<Vec<u8>> = (0..200).map(|k| random::pattern(&mut r, k % 2 == 0)).collect();
     let work = |patterns: &[Vec<u8>]| -> Vec<_> {
-        patterns.iter().map(|p| (vet(p, EVIDENCE, 9), vet_in(p, EVIDENCE, 8192, 9), mark(p, b"abab"), mark(p, b""))).collect()
+        patterns.iter().map(|p| (vet(p, EVIDENCE, 9), vet_in(p, EVIDENCE, SCRATCH, 9), mark(p, b"abab"), mark(p, b""))).collect()
     };
     let alone = work(&patterns);
     let same = std::thread::scope(|s| {

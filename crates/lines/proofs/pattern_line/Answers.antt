@@ -15,4 +15,4 @@ returns-clause-puts c =
     let a = c.args in
     let v = c.vet_pattern-vetted in
     puts_same c.put_result.ensures.puts
-    (line_is a.pattern.now (replicate 4096 0) v.new.evidence (replicate 8192 0) v.new.scratch (many 4096) (many 8192) a.number v.result v.ensures)
+    (line_is a.pattern.now (replicate 4096 0) v.new.evidence (replicate 4096 0) v.new.scratch (many 4096) (many 4096) a.number v.result v.ensures)
