@@ -185,7 +185,7 @@ static struct marking_vetted vet(const char *pattern) {
     } else if (v.verdict == MARKING_STEADY) {
         printf("  \"");
         show_text(evidence, v.text_len);
-        printf("\" has %s; no answer of m letters has more than (m + 2)^%u\n",
+        printf("\" has %s, and no shorter answer has two; no answer of m letters has more than (m + 2)^%u\n",
                readings(count_of(pattern, evidence, v.text_len)), 2 * v.positions);
     } else {
         show_runaway(pattern, evidence, v);

@@ -69,8 +69,9 @@ enum marking_verdict {
 
 /*
  * What vetting gives. The text that shows the verdict stands at the start of the evidence; beyond it the evidence keeps its old
- * bytes. Steady: the text has two readings or more. Runaway: it is x, y and z, one after the other, so that y begins at
- * evidence + x_len and z at evidence + x_len + y_len; x and y are never empty. Every length that does not apply is 0.
+ * bytes. Steady: the text has two readings or more, and no shorter one has two. Runaway: it is x, y and z, one after the other, so
+ * that y begins at evidence + x_len and z at evidence + x_len + y_len; x and y are never empty, and no text shorter than x leads to
+ * where y begins. Every length that does not apply is 0.
  */
 struct marking_vetted {
     enum marking_refusal refusal;

@@ -158,3 +158,19 @@ module _ (g : Graph) where
       first : (rs : List Reading) → Each (λ (r : Reading). is_reading g s r ≡ true) rs → 1 ≤ length rs → (r : Reading) × (is_reading g s r ≡ true)
       first [] k l = absurd (not-suc-le-zero l)
       first (r ∷ rs) k l = (r, k.0)
+
+  -- where there are two or more, two differ
+  pub record TwoReadings (s : List ℕ) : Type 0 where
+    pub one : Reading
+    pub other : Reading
+    pub reads_one : is_reading g s one ≡ true
+    pub reads_other : is_reading g s other ≡ true
+    pub differ : one ≡ other → ⊥
+
+  pub count_two : (s : List ℕ) → 2 ≤ readings g s → TwoReadings s
+  count_two s h = two (all 0 s) (all_apart s 0) (all_reads s 0) (let e = all_length s 0 in omega arith)
+    where
+      two : (rs : List Reading) → Apart rs → Each (λ (r : Reading). is_reading g s r ≡ true) rs → 2 ≤ length rs → TwoReadings s
+      two [] a k l = absurd (omega arith)
+      two (r ∷ []) a k l = absurd (omega arith)
+      two (r ∷ (q ∷ rs)) a k l = record { one = r; other = q; reads_one = k.0; reads_other = k.1.0; differ = a.0.0 }

@@ -6,6 +6,7 @@ use mathlib.Core.List.{List, [], ◌∷◌, ◌++◌}
 use Prim.Native.Nat.{ℕ, suc, ◌≤◌, ◌<◌, zero-le}
 use native.Mathlib.Omega.{arith}
 use lib.ListN.{length, take, drop, take-append-drop}
+use lib.Seq.{take-append_seam}
 use borrow.Author.Tests.{eqb-true, eq-eqb, not-false}
 use Rattle.basics.specs.Lists.{end_of}
 use Rattle.basics.proofs.Tests.{le_or_lt}
@@ -13,7 +14,7 @@ use Rattle.basics.proofs.Folds.{FirstBelow, first_below, first_is, any_true, any
 use Rattle.graph.specs.Graph.{Graph, step}
 use Rattle.graph.specs.Readings.{path, readings}
 use Rattle.graph.specs.Taken.{leads, possible, dead, letters_taken}
-use Rattle.graph.proofs.Walks.{position_of, step_parts, Walk, reads_goes}
+use Rattle.graph.proofs.Walks.{position_of, step_parts, Walk, walk_take, reads_goes}
 use Rattle.graph.proofs.Counting.{count_reading}
 
 module _ (g : Graph) where
@@ -25,21 +26,21 @@ module _ (g : Graph) where
       let f = any_found (step g u b) (λ i. leads g i s v) (suc g.positions) e in
       leads_state f.i s v (omega (arith, f.under)) f.holds
 
-  leads_walk : (u : ℕ) (s : List ℕ) (v : ℕ) → leads g u s v ≡ true → (r : List ℕ) × Walk g u s r × (end_of u r ≡ v)
+  pub leads_walk : (u : ℕ) (s : List ℕ) (v : ℕ) → leads g u s v ≡ true → (r : List ℕ) × Walk g u s r × (end_of u r ≡ v)
   leads_walk u [] v e = ([], tt, eqb-true u v e)
   leads_walk u (b ∷ s) v e =
       let f = any_found (step g u b) (λ i. leads g i s v) (suc g.positions) e in
       let w = leads_walk f.i s v f.holds in
       (f.i ∷ w.0, (f.member, w.1), w.2)
 
-  -- where a walk goes on, letters lead somewhere
-  walk_leads : (u : ℕ) (s t r : List ℕ) → Walk g u (s ++ t) r → (v : ℕ) × (leads g u s v ≡ true)
-  walk_leads u [] t r h = (u, eq-eqb u u refl)
-  walk_leads u (b ∷ s) t [] h = absurd h
-  walk_leads u (b ∷ s) t (i ∷ r) h =
-      let w = walk_leads i s t r h.1 in
+  -- and a walk's letters lead to its end
+  pub walk_leads : (u : ℕ) (s r : List ℕ) → Walk g u s r → leads g u s (end_of u r) ≡ true
+  walk_leads u [] [] h = eq-eqb u u refl
+  walk_leads u [] (i ∷ r) h = absurd h
+  walk_leads u (b ∷ s) [] h = absurd h
+  walk_leads u (b ∷ s) (i ∷ r) h =
       let low = (position_of g i (step_parts g u b i h.0).0).1 in
-      (w.0, any_true (step g u b) (λ j. leads g j s w.0) (suc g.positions) i (omega arith) h.0 w.1)
+      any_true (step g u b) (λ j. leads g j s (end_of i r)) (suc g.positions) i (omega arith) h.0 (walk_leads i s r h.1)
 
   possible_state : (s : List ℕ) (v : ℕ) → possible g s v ≡ true → v ≤ g.positions
   possible_state s v = leads_state 0 s v zero-le
@@ -60,8 +61,10 @@ module _ (g : Graph) where
       ⊎_elim (λ l. omega arith)
       (λ l.
       let r = count_reading g (s ++ t) l in
-      let v = walk_leads 0 s t (path r.0) (reads_goes g 0 (s ++ t) r.0 r.1).0.0 in
-      absurd (true≢false (sym e ∙ possible_live s v.0 v.1)))
+      let k = length s in
+      let w = walk_take g 0 k (s ++ t) (path r.0) (reads_goes g 0 (s ++ t) r.0 r.1).0.0 in
+      let v = walk_leads 0 s (take k (path r.0)) (subst (λ (x : List ℕ). Walk g 0 x (take k (path r.0))) (take-append_seam s t) w) in
+      absurd (true≢false (sym e ∙ possible_live s (end_of 0 (take k (path r.0))) v)))
       (le_or_lt (readings g (s ++ t)) 0)
 
   -- ---- the number

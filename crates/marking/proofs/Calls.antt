@@ -17,7 +17,7 @@ use Rattle.basics.specs.Lists.{Apart, In}
 use Rattle.basics.proofs.Tests.{if_yes}
 use Rattle.alphabet.specs.Alphabet.{all_letters}
 use Rattle.graph.specs.Readings.{Transition, is_reading, readings, credit_of, mark}
-use Rattle.graph.specs.Taken.{letters_taken}
+use Rattle.graph.specs.Taken.{possible, letters_taken}
 use Rattle.graph.proofs.Counting.{reading_counts, count_reading}
 use Rattle.graph.proofs.Taken.{taken_first}
 use Rattle.pattern.specs.Grammar.{pattern_part}
@@ -25,7 +25,7 @@ use Rattle.pattern.specs.Refusals.{pattern_refusal}
 use Rattle.pattern.specs.declared.Refusal.{Refusal}
 use Rattle.pattern.specs.Positions.{positions, pattern_graph}
 use Rattle.pattern.specs.Texts.{Text}
-use Rattle.verdict.specs.Verdict.{verdict}
+use Rattle.verdict.specs.Verdict.{first_pivot, verdict}
 use Rattle.verdict.specs.Evidence.{times, ShowsSteady, ShowsRunaway}
 use Rattle.verdict.specs.Answers.{Begins, ShowsBy}
 use Rattle.marks.specs.declared.Marked.{Marked}
@@ -77,7 +77,7 @@ pub record MarkKeeps (b s : List ℕ) (r : MarkFields) : Type 0 where
 -- ==== What is said of vetting; e and e' are the evidence before and after, w and w' the scratch
 
 -- Called steady, a text stands at the beginning of the evidence: letters, at most p² + p of them, p being what the call gave. It has
--- two readings, and its letters are those to be shown for them (`ShowsSteady`).
+-- two readings, no shorter text has two, and its letters are those to be shown for them (`ShowsSteady`).
 pub record SteadyText (b e e' : List ℕ) (r : VetFields) : Type 0 where
   pub text : List ℕ
   pub letters : all_letters text ≡ true
@@ -88,10 +88,11 @@ pub record SteadyText (b e e' : List ℕ) (r : VetFields) : Type 0 where
   pub written : Begins text e e'
   pub shows : ShowsSteady (pattern_graph b) text
   pub two_readings : 2 ≤ readings (pattern_graph b) text
+  pub shortest : (t : List ℕ) → 2 ≤ readings (pattern_graph b) t → length text ≤ length t
 
 -- Called runaway, x, y and z stand there one after the other: letters, 1 to p of x, 1 to p² + p of y, at most p of z. x leads to the first
--- pivot, y is two different loops there, z leads to an end, and the letters are those to be shown (`ShowsRunaway`). x yᵏ z has at
--- least 2ᵏ readings for every k.
+-- pivot and no shorter text does, y is two different loops there, z leads to an end, and the letters are those to be shown
+-- (`ShowsRunaway`). x yᵏ z has at least 2ᵏ readings for every k.
 pub record RunawayTexts (b e e' : List ℕ) (r : VetFields) : Type 0 where
   pub x : List ℕ
   pub y : List ℕ
@@ -107,6 +108,8 @@ pub record RunawayTexts (b e e' : List ℕ) (r : VetFields) : Type 0 where
   pub third : r.third ≡ length z
   pub written : Begins (x ++ (y ++ z)) e e'
   pub shows : ShowsRunaway (pattern_graph b) x y z
+  pub leads : possible (pattern_graph b) x (first_pivot (pattern_graph b)) ≡ true
+  pub shortest_x : (t : List ℕ) → possible (pattern_graph b) t (first_pivot (pattern_graph b)) ≡ true → length x ≤ length t
   pub readings_double : (k : ℕ) → 2 ^ k ≤ readings (pattern_graph b) (x ++ (times k y ++ z))
 
 -- Demand 3, where nothing is refused.
@@ -221,6 +224,7 @@ module _ (b e e' w w' : List ℕ) where
               written = t.written;
               shows = t.shows;
               two_readings = Demands.steady_text_has_two b t.text a t.shows;
+              shortest = λ u. Demands.steady_text_is_shortest b t.text u a t.shows;
             };
         runaway_shows = λ k.
             let t = shown 2 k in
@@ -239,6 +243,8 @@ module _ (b e e' w w' : List ℕ) where
               third = t.third;
               written = t.written;
               shows = t.shows;
+              leads = Demands.runaway_x_leads b t.x t.y t.z a t.shows;
+              shortest_x = λ u. Demands.runaway_x_is_shortest b t.x t.y t.z u a t.shows;
               readings_double = Demands.runaway_texts_double b t.x t.y t.z a t.shows;
             };
         verdict_low = omega (arith, said, Demands.verdict_is_low b a);

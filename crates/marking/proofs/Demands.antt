@@ -15,7 +15,7 @@ use Rattle.alphabet.specs.Alphabet.{is_letter, all_letters}
 use Rattle.letters.specs.Order.{place}
 use Rattle.letters.proofs.Order as Order
 use Rattle.graph.specs.Readings.{Transition, is_reading, readings, credit_of, mark}
-use Rattle.graph.specs.Taken.{letters_taken}
+use Rattle.graph.specs.Taken.{possible, letters_taken}
 use Rattle.graph.proofs.Counting as Counting
 use Rattle.graph.proofs.Marks as Marks
 use Rattle.graph.proofs.Taken as Taken
@@ -29,9 +29,10 @@ use Rattle.pattern.proofs.Intervals as Intervals
 use Rattle.pattern.proofs.Own.{some_position}
 use Rattle.pattern.proofs.Doubled.{trim}
 use Rattle.verdict.specs.Pairs.{both_hold, shares, letter_shown}
-use Rattle.verdict.specs.Verdict.{verdict}
+use Rattle.verdict.specs.Verdict.{first_pivot, verdict}
 use Rattle.verdict.specs.Evidence.{times, ShowsSteady, ShowsRunaway}
 use Rattle.verdict.proofs.Onward as Onward
+use Rattle.verdict.proofs.Shows as Shows
 use Rattle.verdict.proofs.Bounds as Bounds
 
 -- ---- Demand 2
@@ -96,6 +97,10 @@ steady_can_show b a = Bounds.steady_can (pattern_graph b) (trim b a)
 pub steady_text_has_two : (b s : List ℕ) → pattern_refusal b ≡ 0 → ShowsSteady (pattern_graph b) s → 2 ≤ readings (pattern_graph b) s
 steady_text_has_two b s a = Bounds.steady_shown (pattern_graph b) s
 
+-- and no text with two readings is shorter than one that is shown.
+pub steady_text_is_shortest : (b s t : List ℕ) → pattern_refusal b ≡ 0 → ShowsSteady (pattern_graph b) s → 2 ≤ readings (pattern_graph b) t → length s ≤ length t
+steady_text_is_shortest b s t a h = h.shortest t
+
 -- Runaway: vetting can show texts x, y, z,
 pub runaway_can_show : (b : List ℕ) → pattern_refusal b ≡ 0 → verdict (pattern_graph b) ≡ 2 → (x : List ℕ) × (y : List ℕ) × (z : List ℕ) × ShowsRunaway (pattern_graph b) x y z
 runaway_can_show b a = Bounds.runaway_can (pattern_graph b) (trim b a)
@@ -103,6 +108,14 @@ runaway_can_show b a = Bounds.runaway_can (pattern_graph b) (trim b a)
 -- and x yᵏ z has at least 2ᵏ readings for every k.
 pub runaway_texts_double : (b x y z : List ℕ) → pattern_refusal b ≡ 0 → ShowsRunaway (pattern_graph b) x y z → (k : ℕ) → 2 ^ k ≤ readings (pattern_graph b) (x ++ (times k y ++ z))
 runaway_texts_double b x y z a = Bounds.runaway_shown (pattern_graph b) x y z
+
+-- x leads to the first pivot, where y begins and ends: after its letters that state is possible,
+pub runaway_x_leads : (b x y z : List ℕ) → pattern_refusal b ≡ 0 → ShowsRunaway (pattern_graph b) x y z → possible (pattern_graph b) x (first_pivot (pattern_graph b)) ≡ true
+runaway_x_leads b x y z a = Shows.runaway_leads (pattern_graph b) x y z
+
+-- and after no text that is shorter.
+pub runaway_x_is_shortest : (b x y z t : List ℕ) → pattern_refusal b ≡ 0 → ShowsRunaway (pattern_graph b) x y z → possible (pattern_graph b) t (first_pivot (pattern_graph b)) ≡ true → length x ≤ length t
+runaway_x_is_shortest b x y z t a h = h.shortest_x t
 
 -- The letter shown where two paths come to the positions i and j, or one path to i, and j is i: both sets hold it,
 pub letter_shown_serves : (b : List ℕ) (i j : ℕ) → pattern_refusal b ≡ 0 → shares (pattern_graph b) i j ≡ true → both_hold (pattern_graph b) i j (letter_shown (pattern_graph b) i j) ≡ true

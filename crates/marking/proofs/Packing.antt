@@ -3,11 +3,11 @@ use mathlib.Core.Path.{◌≡◌, ap, ◌∙◌}
 use mathlib.Core.List.{List}
 use Prim.Native.Nat.{ℕ, ◌^◌, ◌<◌}
 use native.Mathlib.Omega.{arith}
-use Rattle.std.specs.Prelude.{Result, Ok, Err}
+use Rattle.std.specs.Prelude.{Result, Ok, Err, IfOk}
 use Rattle.pattern.specs.declared.Refusal.{Refusal}
 use Rattle.vetting.specs.declared.Vetted.{Vetted}
 use Rattle.calls.specs.Vetting.{VetSays}
-use Rattle.marking.specs.Packing.{field, VetFields, vet_fields_of, vet_packed, vet_unpacked, int32, mark_fields_of, mark_unpacked}
+use Rattle.marking.specs.Packing.{field, ShortTexts, VetFields, vet_fields_of, vet_packed, vet_unpacked, int32, mark_fields_of, mark_unpacked}
 use Rattle.marking.specs.ForC.{MarkForC, VetForC}
 use Rattle.std.proofs.lemmas.Grind.{common_steps}
 
@@ -24,6 +24,10 @@ pub record Fits (r : VetFields) : Type 0 where
 pub fits : (s e e' w w' : List ℕ) (r : Result Vetted Refusal) → VetSays s e e' w w' r → Fits (vet_fields_of r)
 fits s e e' w w' (Ok v) h = grind (arith, common_steps)
 fits s e e' w w' (Err e₀) h = grind (arith, common_steps)
+
+pub short_texts : (s e e' w w' : List ℕ) (r : Result Vetted Refusal) → VetSays s e e' w w' r → IfOk r (λ v. ShortTexts v.verdict)
+short_texts s e e' w w' (Ok v) h = let f = fits s e e' w w' (Ok v) h in (f.first, f.second, f.third)
+short_texts s e e' w w' (Err x) h = tt
 
 vet_again : (r : VetFields) → Fits r → vet_unpacked (vet_packed r) ≡ r
 vet_again r f = grind (arith, common_steps)

@@ -21,7 +21,7 @@ use Rattle.verdict.specs.Evidence.{shown, longest}
 use Rattle.verdict.proofs.Chains.{Way, Short, chain_end, chain_each}
 use Rattle.verdict.proofs.Pairs.{lefts, rights}
 use Rattle.verdict.proofs.Flags.{Node, node, start, pairs, Moves, Met, number_of, node_low, node_told, same_at}
-use Rattle.verdict.proofs.Parting.{parts_goal, goal_parts}
+use Rattle.verdict.proofs.Parting.{PartedPaths, parts_paths, paths_parts}
 use Rattle.search.specs.declared.Goal.{Goal}
 use Rattle.search.specs.declared.Goal.TheVariants.{Parted}
 use Rattle.search.specs.declared.Search.{Search}
@@ -102,17 +102,23 @@ module _ {g : Graph} {steps : Steps} (tables : Tables g steps) where
   pub some_parts : (m u : ℕ) → u ≤ g.positions → (ys : List ℕ) → Chain (Step steps) u ys → is_goal (Parted m) (end_of u ys) ≡ true → parts_to g u (both_in m) ≡ true
   some_parts m u l ys h k =
       let w = parted m u l ys h k in
-      goal_parts g u (both_in m) (record { to = w.to; passes = w.passes; way = record { nodes = w.nodes; goes = w.goes; ends = w.ends } })
+      paths_parts g u (both_in m) (record { to = w.to; passes = w.passes; way = record { nodes = w.nodes; goes = w.goes; ends = w.ends } })
+
+  -- and two paths that part are such a chain
+  pub parted_chain : (m u : ℕ) → u ≤ g.positions → (k : PartedPaths g u (both_in m)) → Chain (Step steps) u (map code k.way.nodes) × (is_goal (Parted m) (end_of u (map code k.way.nodes)) ≡ true)
+  parted_chain m u l k =
+      let c = k.way.nodes in
+      let end : end_of u (map code c) ≡ code (node k.to true) = map_end code (start u) c ∙ ap code k.way.ends in
+      let held = subst (λ (n : Node). Held g n.parted n.at) k.way.ends (held_end u c l k.way.goes) in
+      (drop_chain tables (start u) c (refl, l) k.way.goes, ap (is_goal (Parted m)) end ∙ goal_code m true k.to held ∙ k.passes)
 
   pub none_parts : (m u : ℕ) → u ≤ g.positions → ((ys : List ℕ) → Chain (Step steps) u ys → is_goal (Parted m) (end_of u ys) ≡ false) → parts_to g u (both_in m) ≡ false
   none_parts m u l none =
       by_test (parts_to g u (both_in m))
       (λ h.
-      let k = parts_goal g u (both_in m) h in
-      let c = k.way.nodes in
-      let end : end_of u (map code c) ≡ code (node k.to true) = map_end code (start u) c ∙ ap code k.way.ends in
-      let held = subst (λ (n : Node). Held g n.parted n.at) k.way.ends (held_end u c l k.way.goes) in
-      absurd (true≢false (sym (goal_code m true k.to held ∙ k.passes) ∙ ap (is_goal (Parted m)) (sym end) ∙ none (map code c) (drop_chain tables (start u) c (refl, l) k.way.goes))))
+      let k = parts_paths g u (both_in m) h in
+      let c = parted_chain m u l k in
+      absurd (true≢false (sym c.1 ∙ none (map code k.way.nodes) c.0)))
       (λ h. h)
 
   pub reached_parts : {s : List ℕ} {m u i : ℕ} → Reached steps s (Parted m) u i → u ≤ g.positions → parts_to g u (both_in m) ≡ true

@@ -1,3 +1,4 @@
+pub mod Levels
 pub mod Visiting
 pub mod Moves
 pub mod Found

@@ -27,6 +27,7 @@ use Rattle.nodes.specs.declared.Steps.{Steps}
 use Rattle.nodes.specs.Nodes.{IsNode, one, pack, number_of, Fits, Numbered, Step}
 use Rattle.nodes.specs.Taken.{taken, OneTaken, TakenUp, Fresh, Gone, Found, Finds}
 use Rattle.search.specs.Search.{queue, back_of, Queued, SoundQueue, SoundSearch, enqueue, mask_of, is_goal_state, is_goal, Begun, TookUp, Ended, Searching, Reached}
+use Rattle.search.proofs.Levels.{behind_none, no_nearer}
 use Rattle.nodes.proofs.Nodes.{number, node_low, node_told, numbered_fits, step_node, parts_positions, pack_node, taken_pair, fresh, spent, all_pending}
 use Rattle.std.proofs.lemmas.Grind.{common_steps}
 
@@ -81,13 +82,22 @@ module _ {E : ℕ → ℕ → Type 0} {T : ℕ → Bool} {s : List ℕ} {h t : �
     old : (i : ℕ) → i < t → queue s' i ≡ queue s i
     old = up_before s y h t long room
 
-    still : (x : ℕ) → Queued s t x → Queued s' (t + 1) x
+    abbrev still : (x : ℕ) → Queued s t x → Queued s' (t + 1) x
     still x q = let k = q.low in record { at = q.at; low = omega arith; is = old q.at k ∙ q.is }
 
     queued' : (x : ℕ) → IsNode x → T' x ≡ true → Queued s' (t + 1) x
     queued' x n e =
         ⊎_elim (λ k. still x (w.queued x n k)) (λ k. record { at = t; low = omega arith; is = last ∙ eqb-true y x k })
         (or_cases (T x) (eqb y x) (sym (takes x n) ∙ e))
+
+    from : back_of s' t ≡ h
+    from = up_back s y h t long room
+
+    old_from : (i : ℕ) → i < t → back_of s' i ≡ back_of s i
+    old_from = up_back_before s y h t long room
+
+    behind' : (i : ℕ) → i < t + 1 → back_of s' i ≤ h
+    behind' = one_more t (λ i. back_of s' i ≤ h) (λ i k. omega (arith, old_from i k, w.behind i k)) (omega (arith, from))
 
     pub enqueued : SoundQueue E T' s' h (t + 1)
     enqueued = record {
@@ -105,25 +115,46 @@ module _ {E : ℕ → ℕ → Type 0} {T : ℕ → Bool} {s : List ℕ} {h t : �
       back = λ i z k. one_more t (λ i. 0 < i → (back_of s' i < i) × E (queue s' (back_of s' i)) (queue s' i))
           (λ i k z.
           let b = w.back i z k in
-          let e = up_back_before s y h t long room i k in
+          let e = old_from i k in
           (omega arith, subst (λ (j : ℕ). E (queue s' j) (queue s' i)) (sym e) (subst (λ (x : ℕ). E x (queue s' i)) (sym (old (back_of s i) (omega arith))) (subst (E (queue s (back_of s i))) (sym (old i k)) b.1))))
           (λ z.
-          let e = up_back s y h t long room in
-          (omega arith, subst (λ (j : ℕ). E (queue s' j) (queue s' t)) (sym e) (subst (λ (x : ℕ). E x (queue s' t)) (sym (old h l)) (subst (E (queue s h)) (sym last) st)))) i k z;
-      closed = λ i k x q. still x (w.closed i k x (subst (λ (u : ℕ). E u x) (old i (omega arith)) q));
+          (omega (arith, from), subst (λ (j : ℕ). E (queue s' j) (queue s' t)) (sym from) (subst (λ (x : ℕ). E x (queue s' t)) (sym (old h l)) (subst (E (queue s h)) (sym last) st)))) i k z;
+      ordered = λ i j k m. one_more t (λ j. i ≤ j → back_of s' i ≤ back_of s' j)
+          (λ j m k. omega (arith, old_from i (omega arith), old_from j m, w.ordered i j k m))
+          (λ k. omega (arith, from, behind' i (omega arith))) j m k;
+      behind = behind';
+      closed = λ i k x q. let c = w.closed i k x (subst (λ (u : ℕ). E u x) (old i (omega arith)) q) in (still x c.0, omega (arith, old_from c.0.at c.0.low, c.1));
     }
 
 -- ---- the head is passed
 
 pub passed : {E : ℕ → ℕ → Type 0} {T : ℕ → Bool} {s : List ℕ} {h t : ℕ} → SoundQueue E T s h t → h < t → ((y : ℕ) → E (queue s h) y → IsNode y × (T y ≡ true)) → SoundQueue E T s (h + 1) t
-passed {E} {s = s} {h} {t} w l spent = grind (arith, common_steps)
+passed {E} {s = s} {h} {t} w l spent = record {
+  begun = w.begun;
+  within = omega arith;
+  few = w.few;
+  nodes = w.nodes;
+  taken_up = w.taken_up;
+  queued = w.queued;
+  differ = w.differ;
+  back = w.back;
+  ordered = w.ordered;
+  behind = λ i k. omega (arith, w.behind i k);
+  closed = λ i k y q.
+      by_equal i h
+      (λ e.
+      let n = spent y (subst (λ (j : ℕ). E (queue s j) y) e q) in
+      let c = w.queued y n.0 n.1 in
+      (c, omega (arith, e, w.behind c.at c.low)))
+      (λ d. w.closed i (omega arith) y q);
+}
 
 -- ---- once it is over
 
 pub complete : {E : ℕ → ℕ → Type 0} {T : ℕ → Bool} {s : List ℕ} {t : ℕ} → SoundQueue E T s t t → (c : List ℕ) (i : ℕ) → i < t → Chain E (queue s i) c → Queued s t (end_of (queue s i) c)
 complete w [] i l h = record { at = i; low = l; is = refl }
 complete {E} {s = s} {t = t} w (x ∷ c) i l h =
-    let q = w.closed i l x h.0 in
+    let q = (w.closed i l x h.0).0 in
     let e = sym q.is in
     subst (λ (y : ℕ). Queued s t (end_of y c)) q.is (complete w c q.at q.low (subst (λ (y : ℕ). Chain E y c) e h.1))
 
@@ -142,6 +173,7 @@ begun : (E : ℕ → ℕ → Type 0) (T : ℕ → Bool) (s : List ℕ) (x : ℕ)
 begun E T s x long node takes =
     let first = up_last s x 0 0 long (omega arith) in
     let at : (i : ℕ) → i < 1 → queue (enqueue s x 0 0) i ≡ x = λ i l. (let e : i ≡ 0 = omega arith in ap (queue (enqueue s x 0 0)) e ∙ first) in
+    let from : (i : ℕ) → i < 1 → back_of (enqueue s x 0 0) i ≡ 0 = λ i l. (let e : i ≡ 0 = omega arith in ap (back_of (enqueue s x 0 0)) e ∙ up_back s x 0 0 long (omega arith)) in
     record {
       begun = omega arith;
       within = omega arith;
@@ -151,6 +183,8 @@ begun E T s x long node takes =
       queued = λ z n e. record { at = 0; low = omega arith; is = first ∙ eqb-true x z (sym (takes z n) ∙ e) };
       differ = λ i j l m. absurd (omega arith);
       back = λ i z l. absurd (omega arith);
+      ordered = λ i j l m. omega (arith, from i (omega arith));
+      behind = λ i l. omega (arith, from i l);
       closed = λ i l. absurd (omega arith);
     }
 
@@ -256,7 +290,16 @@ pub search_first : {steps : Steps} {s : List ℕ} {goal : Goal} {start : ℕ} {w
 search_first {s = s} {goal} b none = grind (arith, common_steps)
 
 pub begun_found : {steps : Steps} {s : List ℕ} {goal : Goal} {start : ℕ} {w : Search} → Begun steps s start w → is_goal goal start ≡ true → Reached steps s goal start 0
-begun_found {goal = goal} {w = w} b e = grind (arith, common_steps)
+begun_found {s = s} {goal = goal} {w = w} b e = record {
+  head = w.head;
+  tail = w.tail;
+  is_taken = taken w.seen;
+  sound = b.sound.queue;
+  first = b.first;
+  last = b.one;
+  meets = ap (is_goal goal) b.first ∙ e;
+  nearest = λ n k c g f. omega (arith, behind_none s 0 n refl k);
+}
 
 module _ {steps : Steps} {s s' : List ℕ} {goal : Goal} {start : ℕ} {w w' : Search} (a : Searching steps s goal start w) where
   -- one more node is taken up
@@ -264,9 +307,21 @@ module _ {steps : Steps} {s s' : List ℕ} {goal : Goal} {start : ℕ} {w w' : S
     first : queue s' 0 ≡ start
     first = v.kept 0 a.sound.queue.begun ∙ a.first
 
+    ends : w'.tail ≡ i + 1
+    ends = omega (arith, v.more, v.last)
+
     -- and is one
     pub search_found : is_goal goal (number_of y) ≡ true → Reached steps s' goal start i
-    search_found e = grind (arith, common_steps)
+    search_found e = record {
+      head = w'.head;
+      tail = w'.tail;
+      is_taken = taken w'.seen;
+      sound = v.sound.queue;
+      first = first;
+      last = ends;
+      meets = ap (is_goal goal) v.is ∙ e;
+      nearest = λ n b. no_nearer v.sound.queue (is_goal goal) i n ends (λ j l. ap (is_goal goal) (v.kept j (omega (arith, v.last))) ∙ a.none j (omega (arith, v.last))) b start first;
+    }
 
   -- the search is over
   pub search_over : Ended steps s s' w w' → Searching steps s' goal start w'

@@ -1,6 +1,6 @@
 -- A search under way, breadth first. The queue stands in the lent numbers: the i-th node taken up at i, and at 2048 + i the
 -- queue number of the node before it on the way.
-use Rattle.std.specs.Prelude.{◌≡◌, Bool, true, false, ◌&&◌, List, ℕ, ◌+◌, ◌/◌, ◌%◌, ◌≤◌, ◌<◌, ltb, get_or, set, if◌then◌else◌, Option, None, Some}
+use Rattle.std.specs.Prelude.{◌≡◌, Bool, true, false, ◌&&◌, List, ℕ, suc, ◌+◌, ◌/◌, ◌%◌, ◌≤◌, ◌<◌, ltb, length, get_or, set, if◌then◌else◌, Option, None, Some}
 use Rattle.basics.specs.Lists.{end_of, Chain}
 use Rattle.bits.specs.Bits.{has_bit}
 use Rattle.graph.specs.Graph.{Graph}
@@ -25,7 +25,13 @@ pub record Queued (s : List ℕ) (n x : ℕ) : Type 0 where
   pub low : at < n
   pub is : queue s at ≡ x
 
--- what holds of the queue between visits, for any steps E and any test of what is taken up
+-- it is n steps back from the i-th to the first
+pub data Behind (s : List ℕ) : ℕ → ℕ → Type 0 where
+  first : Behind s 0 0
+  later : {i n : ℕ} → 0 < i → Behind s (back_of s i) n → Behind s i (suc n)
+
+-- what holds of the queue between visits, for any steps E and any test of what is taken up; breadth first: what is taken up later is
+-- taken up from the same node or a later one, the head at most
 pub record SoundQueue (E : ℕ → ℕ → Type 0) (is_taken : ℕ → Bool) (s : List ℕ) (head tail : ℕ) : Type 0 where
   pub begun : 0 < tail
   pub within : head ≤ tail
@@ -35,7 +41,9 @@ pub record SoundQueue (E : ℕ → ℕ → Type 0) (is_taken : ℕ → Bool) (s 
   pub queued : (x : ℕ) → IsNode x → is_taken x ≡ true → Queued s tail x
   pub differ : (i j : ℕ) → i < j → j < tail → queue s i ≡ queue s j → ⊥
   pub back : (i : ℕ) → 0 < i → i < tail → (back_of s i < i) × E (queue s (back_of s i)) (queue s i)
-  pub closed : (i : ℕ) → i < head → (y : ℕ) → E (queue s i) y → Queued s tail y
+  pub ordered : (i j : ℕ) → i ≤ j → j < tail → back_of s i ≤ back_of s j
+  pub behind : (i : ℕ) → i < tail → back_of s i ≤ head
+  pub closed : (i : ℕ) → i < head → (y : ℕ) → E (queue s i) y → (q : Queued s tail y) × (back_of s q.at ≤ i)
 
 -- such a queue for the steps of t; the pairs one step on from the head are taken up but for what is pending
 pub record SoundSearch (t : Steps) (s : List ℕ) (w : Search) : Type 0 where
@@ -93,7 +101,7 @@ pub record Searching (t : Steps) (s : List ℕ) (goal : Goal) (start : ℕ) (w :
   pub first : queue s 0 ≡ start
   pub none : (i : ℕ) → i < w.tail → is_goal goal (queue s i) ≡ false
 
--- the i-th node of the queue, its last, is a goal
+-- the i-th node of the queue, its last, is a goal, and no chain of steps to a goal is shorter than the way back from it
 pub record Reached (t : Steps) (s : List ℕ) (goal : Goal) (start i : ℕ) : Type 0 where
   pub head : ℕ
   pub tail : ℕ
@@ -102,6 +110,7 @@ pub record Reached (t : Steps) (s : List ℕ) (goal : Goal) (start i : ℕ) : Ty
   pub first : queue s 0 ≡ start
   pub last : tail ≡ i + 1
   pub meets : is_goal goal (queue s i) ≡ true
+  pub nearest : (n : ℕ) → Behind s i n → (nodes : List ℕ) → Chain (Step t) start nodes → is_goal goal (end_of start nodes) ≡ true → n ≤ length nodes
 
 -- the queue has been gone through, no node of it is a goal, and no chain of steps leads to one
 pub record Missed (t : Steps) (s : List ℕ) (goal : Goal) (start : ℕ) : Type 0 where

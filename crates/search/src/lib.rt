@@ -66,7 +66,7 @@ impl Scratch<'_> {
     }
 }
 
-// The search from a state to a goal: the queue number of the first that is found.
+// The search from a state to a goal: the queue number of the first that is found. No way to a goal is shorter than the one to it.
 pub fn to_goal(steps: &Steps, scratch: &mut Scratch, goal: Goal, start: usize) -> Option<usize>
     requires { start ≤ 60 }
     ensures { Searched steps.now scratch.new.numbers.now goal start result }

@@ -14,24 +14,12 @@ use Rattle.letters.specs.declared.LetterSet.{LetterSet}
 use Rattle.search.specs.declared.Goal.{Goal}
 use Rattle.nodes.specs.declared.Steps.{Steps}
 use Rattle.nodes.specs.Nodes.{Step}
-use Rattle.search.specs.Search.{queue, back_of, is_goal, SoundQueue, Reached}
-use Rattle.texts.specs.Texts.{letter_at, LeadsBack, Behind, first, later, WayTo, there, before, Traced, ShownText}
+use Rattle.search.specs.Search.{queue, back_of, Behind, first, later, is_goal, SoundQueue, Reached}
+use Rattle.texts.specs.Texts.{letter_at, LeadsBack, WayTo, there, before, Traced, ShownText}
+use Rattle.search.proofs.Levels.{behind_further, behind_none}
 use Rattle.search.proofs.Visiting.{few_nodes}
 
 -- ---- how many steps
-
-pub record Further (s : List ℕ) (i n : ℕ) : Type 0 where
-  pub less : ℕ
-  pub is : n ≡ suc less
-  pub rest : Behind s (back_of s i) less
-
-pub behind_further : (s : List ℕ) (i n : ℕ) → 0 < i → Behind s i n → Further s i n
-behind_further s i n l first = absurd (omega arith)
-behind_further s i n l (later {i = j} {n = m} k b) = record { less = m; is = refl; rest = b }
-
-pub behind_none : (s : List ℕ) (i n : ℕ) → i ≡ 0 → Behind s i n → n ≡ 0
-behind_none s i n e first = refl
-behind_none s i n e (later k b) = absurd (omega arith)
 
 -- counting: n steps from the i-th, and then what is behind j
 pub record Counted (s : List ℕ) (i j n : ℕ) : Type 0 where
@@ -171,8 +159,8 @@ module _ {t : Steps} {s : List ℕ} {goal : Goal} {u i : ℕ} (r : Reached t s g
   pub found_steps : (P : ℕ → Type 0) → ((x y : ℕ) → Step t x y → P y) → (j : ℕ) → 0 < j → j ≤ i → P (queue s j)
   found_steps P f j l k = f (queue s (back_of s j)) (queue s j) (r.sound.back j l (omega (arith, r.last))).1
 
-  pub shown_text : {sets : List LetterSet} {e e' : List ℕ} {base n : ℕ} → 4096 ≤ length s → n ≤ i → Traced sets s e e' i base n → ShownText sets t e e' goal u base n
-  shown_text long l tr =
+  pub shown_text : {sets : List LetterSet} {e e' : List ℕ} {base n : ℕ} → 4096 ≤ length s → Behind s i n → n ≤ i → Traced sets s e e' i base n → ShownText sets t e e' goal u base n
+  shown_text {n = n} long b l tr =
       let a = along r.sound i 0 tr.nodes (omega (arith, r.last)) tr.way in
       record {
         nodes = tr.nodes;
@@ -180,6 +168,7 @@ module _ {t : Steps} {s : List ℕ} {goal : Goal} {u i : ℕ} (r : Reached t s g
         apart = a.apart;
         meets = ap (λ (x : ℕ). is_goal goal (end_of x tr.nodes)) (sym r.first) ∙ ap (is_goal goal) a.ends ∙ r.meets;
         size = tr.size;
+        nearest = r.nearest n b;
         few = omega (arith, found_few long);
         text = tr.text;
       }

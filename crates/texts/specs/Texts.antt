@@ -1,5 +1,5 @@
 -- The way back from a node of the queue, and the text of the nodes on it.
-use Rattle.std.specs.Prelude.{◌≡◌, true, false, List, [], ◌∷◌, ◌++◌, map, ℕ, suc, ◌+◌, ◌≤◌, ◌<◌, length, take, drop, Option, None, Some}
+use Rattle.std.specs.Prelude.{◌≡◌, true, false, List, [], ◌∷◌, ◌++◌, map, ℕ, ◌+◌, ◌≤◌, ◌<◌, length, take, drop, Option, None, Some}
 use Rattle.basics.specs.Lists.{Apart, end_of, Chain}
 use Rattle.alphabet.specs.Alphabet.{some_letter}
 use Rattle.letters.specs.Order.{first_letter}
@@ -28,11 +28,6 @@ pub record LeadsBack (s : List ℕ) (n : ℕ) : Type 0 where
   pub few : n ≤ 2048
   pub lower : (i : ℕ) → 0 < i → i < n → back_of s i < i
 
--- it is n steps back from the i-th to the first
-pub data Behind (s : List ℕ) : ℕ → ℕ → Type 0 where
-  first : Behind s 0 0
-  later : {i n : ℕ} → 0 < i → Behind s (back_of s i) n → Behind s i (suc n)
-
 -- from there on to the i-th, these nodes
 pub data WayTo (s : List ℕ) (i : ℕ) : ℕ → List ℕ → Type 0 where
   there : WayTo s i i []
@@ -48,7 +43,7 @@ pub record Traced (sets : List LetterSet) (s e e' : List ℕ) (i base n : ℕ) :
   pub size : length nodes ≡ n
   pub text : e' ≡ written sets e base n nodes
 
--- ---- a search with its text: so many letters written at base, or nothing written where no goal is found
+-- ---- a search with its text: so many letters written at base, as few as lead to a goal, or nothing written where no goal is found
 
 pub record ShownText (sets : List LetterSet) (t : Steps) (e e' : List ℕ) (goal : Goal) (start base r : ℕ) : Type 0 where
   pub nodes : List ℕ
@@ -56,6 +51,7 @@ pub record ShownText (sets : List LetterSet) (t : Steps) (e e' : List ℕ) (goal
   pub apart : Apart nodes
   pub meets : is_goal goal (end_of start nodes) ≡ true
   pub size : length nodes ≡ r
+  pub nearest : (ys : List ℕ) → Chain (Step t) start ys → is_goal goal (end_of start ys) ≡ true → r ≤ length ys
   pub few : r ≤ 1890
   pub text : e' ≡ written sets e base r nodes
 

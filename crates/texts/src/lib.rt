@@ -1,16 +1,17 @@
-// The text of the way to a goal: a search from a state, and the letters shown of the nodes on the way to what it finds, written
+// The text of a shortest way to a goal: a search from a state, and the letters shown of the nodes on the way to what it finds, written
 // from the last one to the first.
 #![tactic(auto)]
 
 ghost use Rattle.std.specs.Prelude.{◌≡◌, ℕ, ◌+◌, ◌≤◌, ◌<◌, length, get_or};
 ghost use Rattle.nodes.specs.Nodes.{Step};
-ghost use Rattle.texts.specs.Texts.{Showable, letter_at, LeadsBack, Behind, Traced, Shown};
+ghost use Rattle.search.specs.Search.{Behind};
+ghost use Rattle.texts.specs.Texts.{Showable, letter_at, LeadsBack, Traced, Shown};
 
 use letters::LetterSet;
 use nodes::{Node, Steps};
 use search::{Goal, Scratch};
 
-// Searches, and writes the text of the way to the goal at base: its length, or None where there is no goal.
+// Searches, and writes the text of a shortest way to a goal at base: its length, or None where there is no goal.
 pub fn show(
     steps: &Steps,
     sets: &[LetterSet; 61],

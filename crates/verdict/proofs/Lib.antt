@@ -8,6 +8,7 @@ pub mod Flags
 pub mod Parting
 pub mod Routes
 pub mod Onward
+pub mod Shortest
 pub mod Pivots
 pub mod Shows
 pub mod Bounds

@@ -41,7 +41,7 @@ module _ (g : Graph) (u : ℕ) (goal : ℕ → ℕ → Bool) where
   linked a v = reaches g (pair u u) v v && two_links g v a
 
   -- two paths from u that part, and come to a pair that passes
-  pub record Goal : Type 0 where
+  pub record PartedPaths : Type 0 where
     pub to : Pair
     pub passes : goal to.left to.right ≡ true
     pub way : Way (Moves g) (start u) (node to true)
@@ -71,8 +71,8 @@ module _ (g : Graph) (u : ℕ) (goal : ℕ → ℕ → Bool) where
       (or_cases (two_links g u a.left) (any_if (is_position g) (linked a.left) (suc g.positions)) q.1))
       (or_cases (off && to) (eqb a.left a.right && by) h)
 
-  pub parts_goal : parts_to g u goal ≡ true → Goal
-  parts_goal h =
+  pub parts_paths : parts_to g u goal ≡ true → PartedPaths
+  parts_paths h =
       let x = pair_found g parts h in
       let a = x.at in
       let p = and_parts (parted_at g u a.left a.right) (some_pair g (leads a.left a.right)) x.holds in
@@ -117,8 +117,8 @@ module _ (g : Graph) (u : ℕ) (goal : ℕ → ℕ → Bool) where
       (way_linked_by o.from a.left o.before s.1 (and_of (doubled g o.from.left a.left) (shares g a.left a.left) s.2 share))))
       o.parts
 
-  pub goal_parts : Goal → parts_to g u goal ≡ true
-  goal_parts k =
+  pub paths_parts : PartedPaths → parts_to g u goal ≡ true
+  paths_parts k =
       let z = k.to in
       let w = k.way in
       let o = subst (λ (n : Node). Off g (pair u u) n.at) w.ends (off_on g (start u) w.nodes (λ e. refl) w.goes refl (ap (λ (n : Node). n.parted) w.ends)) in
@@ -129,6 +129,11 @@ module _ (g : Graph) (u : ℕ) (goal : ℕ → ℕ → Bool) where
       (and_of (reaches g a z.left z.right) (goal z.left z.right) (way_reaches g a z o.after) k.passes)))
 
 -- ---- by walks
+
+-- the text shown for the two sides of a chain has a letter for each step
+pub shown_steps : (g : Graph) (c : List Node) → length (shown g (lefts (pairs c)) (rights (pairs c))) ≡ length c
+shown_steps g [] = refl
+shown_steps g (n ∷ c) = ap suc (shown_steps g c)
 
 -- where a side of a flagged chain leads
 pub side_end : (side : Pair → ℕ) (n : Node) (c : List Node) → end_of (side n.at) (map side (pairs c)) ≡ side (end_of n c).at
@@ -163,10 +168,8 @@ module _ (g : Graph) (trim : Trim g) (u : ℕ) (goal : ℕ → ℕ → Bool) whe
       let left = left_walk g (pair u u) c k in
       let right_is = right_path g (start u) s.nodes in
       let some = some_step u z s.nodes s.ends in
+      let size = shown_steps g s.nodes in
       let few = s.few in
-      let l1 = walk_length g u text (lefts c) left in
-      let l2 = length-map c (λ (t : Pair). t.left) in
-      let l3 = length-map s.nodes (λ (n : Node). n.at) in
       let to : (side : Pair → ℕ) → end_of (side (pair u u)) (map side c) ≡ side z = λ side. side_end side (start u) s.nodes ∙ ap (λ (n : Node). side n.at) s.ends in
       record {
         text = text;
@@ -183,19 +186,34 @@ module _ (g : Graph) (trim : Trim g) (u : ℕ) (goal : ℕ → ℕ → Bool) whe
       }
 
   pub parting : parts_to g u goal ≡ true → Parting g u goal
-  parting h = let x = parts_goal g u goal h in short_parting x.to x.passes (short_way g (start u) (node x.to true) x.way)
+  parting h = let x = parts_paths g u goal h in short_parting x.to x.passes (short_way g (start u) (node x.to true) x.way)
 
-  -- where the test fails, two walks over one text to a pair that passes are one
-  pub walks_same : parts_to g u goal ≡ false → (s : List ℕ) (c d : List Transition) → Goes g u s c → Goes g u s d → goal (end_of u (path c)) (end_of u (path d)) ≡ true → c ≡ d
-  walks_same e s c d v w k =
+  -- two paths from u that part, and come in n steps to a pair that passes
+  pub record PartedIn (n : ℕ) : Type 0 where
+    pub paths : PartedPaths g u goal
+    pub size : length paths.way.nodes ≡ n
+
+  -- two walks over one text to such a pair are paths of that kind, as long as the text, or they are one
+  pub walks_meet : (s : List ℕ) (c d : List Transition) → Goes g u s c → Goes g u s d → goal (end_of u (path c)) (end_of u (path d)) ≡ true → PartedIn (length s) ⊎ (c ≡ d)
+  walks_meet s c d v w k =
       let m = together g trim.letters (start u) (λ e. refl) s c d v w in
       by_test (end_of (start u) m.nodes).parted
       (λ f.
       let z = (end_of (start u) m.nodes).at in
       let there = ap₂ goal (sym (side_end (λ x. x.left) (start u) m.nodes) ∙ ap (end_of u) m.left) (sym (side_end (λ x. x.right) (start u) m.nodes) ∙ ap (end_of u) m.right) in
-      let way : Way (Moves g) (start u) (node z true) = record { nodes = m.nodes; goes = m.goes; ends = λ i. record { at = z; parted = f i } } in
-      absurd (false≢true (sym e ∙ goal_parts g u goal (record { to = z; passes = there ∙ k; way = way }))))
-      (λ f. m.same f)
+      let l1 = length-map m.nodes (λ (n : Node). n.at) in
+      let l2 = length-map (pairs m.nodes) (λ (t : Pair). t.left) in
+      let l3 = ap length m.left in
+      let l4 = walk_length g u s (path c) v.0 in
+      inl (record {
+        paths = record { to = z; passes = there ∙ k; way = record { nodes = m.nodes; goes = m.goes; ends = λ i. record { at = z; parted = f i } } };
+        size = omega arith;
+      }))
+      (λ f. inr (m.same f))
+
+  -- where the test fails they are one
+  pub walks_same : parts_to g u goal ≡ false → (s : List ℕ) (c d : List Transition) → Goes g u s c → Goes g u s d → goal (end_of u (path c)) (end_of u (path d)) ≡ true → c ≡ d
+  walks_same e s c d v w k = ⊎_elim (λ m. absurd (false≢true (sym e ∙ paths_parts g u goal m.paths))) (λ q. q) (walks_meet s c d v w k)
 
   pub walks_part : (s : List ℕ) (c d : List Transition) → Goes g u s c → Goes g u s d → goal (end_of u (path c)) (end_of u (path d)) ≡ true → (c ≡ d → ⊥) → parts_to g u goal ≡ true
   walks_part s c d v w k differ = by_test (parts_to g u goal) (λ e. e) (λ e. absurd (differ (walks_same e s c d v w k)))

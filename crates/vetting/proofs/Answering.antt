@@ -21,6 +21,7 @@ use Rattle.alphabet.proofs.Alphabet.{lowest_letter_is, letter_some}
 use Rattle.letters.specs.declared.LetterSet.{LetterSet}
 use Rattle.graph.specs.declared.Built.{Built}
 use Rattle.graph.specs.Graph.{Graph, is_position}
+use Rattle.graph.specs.Readings.{readings}
 use Rattle.graph.specs.Built.{graph_of_built}
 use Rattle.graph.specs.Trim.{Route, Useful}
 use Rattle.graph.proofs.Links.{built_next, built_doubled}
@@ -30,10 +31,11 @@ use Rattle.verdict.specs.Verdict.{parts_to, ambiguous, is_pivot, first_pivot, ve
 use Rattle.verdict.specs.Evidence.{shown, ShowsSteady, ShowsRunaway}
 use Rattle.verdict.specs.Answers.{Begins}
 use Rattle.verdict.proofs.Pairs.{place_low, place_told}
+use Rattle.verdict.proofs.Routes.{led}
 use Rattle.verdict.proofs.Flags.{start}
 use Rattle.verdict.proofs.Parting.{Parting, short_parting}
 use Rattle.verdict.proofs.Pivots.{first_pivot_is, back_to, Loops, parting_loops}
-use Rattle.verdict.proofs.Shows.{both_last, parting_steady, loops_runaway}
+use Rattle.verdict.proofs.Shows.{both_last, two_parted, parting_steady, Nearest, loops_runaway}
 use Rattle.search.specs.declared.Goal.{Goal}
 use Rattle.search.specs.declared.Goal.TheVariants.{OnePath, Parted}
 use Rattle.nodes.specs.Nodes.{left_of, right_of, Step, single, beside}
@@ -45,9 +47,9 @@ use Rattle.vetting.specs.declared.Verdict.{Verdict}
 use Rattle.vetting.specs.declared.Verdict.TheVariants.{Single, Steady, Runaway}
 use Rattle.vetting.specs.Answers.{Vettable, Reported}
 use Rattle.nodes.proofs.Nodes.{left_low, right_low, sides}
-use Rattle.search.proofs.Moves.{shares_swap}
+use Rattle.search.proofs.Moves.{shares_swap, code}
 use Rattle.search.proofs.Visiting.{goal_low}
-use Rattle.search.proofs.Found.{both_in, parted, short_nodes, shown_codes, some_parts, none_parts, letter_of, chain_route, route_chain}
+use Rattle.search.proofs.Found.{both_in, parted, parted_chain, short_nodes, shown_codes, some_parts, none_parts, letter_of, chain_route, route_chain}
 use Rattle.search.proofs.Pivoting.{equal_swap}
 use Rattle.std.proofs.lemmas.Grind.{common_steps}
 
@@ -197,6 +199,14 @@ module _ {b : Built} {more : List ℕ} (fit : Vettable b more) where
       shows = record { first = refl; second = refl; third = refl; kept = n.0 };
     }
 
+    -- a text with two readings is a chain of steps to a goal, and no such chain is shorter than what the search finds
+    two_shortest : {r : ℕ} → ShownText b.letters t e e' (Parted b.lasts) 0 0 r → (u : List ℕ) → 2 ≤ readings g u → r ≤ length u
+    two_shortest s u h =
+        let k = two_parted g fit.trim u h in
+        let c = k.paths.way.nodes in
+        let goes = parted_chain tables b.lasts 0 zero-le k.paths in
+        omega (arith, s.nearest (map code c) goes.0 goes.1, length-map c code, k.size)
+
     pub steady_answer : {r : ℕ} → ShownText b.letters t e e' (Parted b.lasts) 0 0 r → Reported g e e' (Steady r)
     steady_answer {r} s =
         let w = two_walks tables (both_last g) (λ c d. refl) zero-le s in
@@ -206,7 +216,7 @@ module _ {b : Built} {more : List ℕ} (fit : Vettable b more) where
           verdict_is = sym (verdict_low none ∙ if_yes 1 0 (ambiguous g) (some_parts tables b.lasts 0 zero-le s.nodes s.goes s.meets));
           shows = record {
             text = text;
-            shows = subst (ShowsSteady g) (sym w.text) (parting_steady g w.walks);
+            shows = subst (ShowsSteady g) (sym w.text) (parting_steady g w.walks (λ u h. omega (arith, two_shortest s u h, size, ap length w.text)));
             first = sym size;
             second = refl;
             third = refl;
@@ -234,10 +244,10 @@ module _ {b : Built} {more : List ℕ} (fit : Vettable b more) where
     useful : Useful g q
     useful = fit.trim.useful q first.0
 
-    at_pivot : (w : Useful g q) (l : Loops g q) → ShowsRunaway g (shown g w.way_in w.way_in) l.text (shown g w.way_out w.way_out)
+    at_pivot : (w : Useful g q) (l : Loops g q) → Nearest g q w.way_in → ShowsRunaway g (shown g w.way_in w.way_in) l.text (shown g w.way_out w.way_out)
     at_pivot =
-        subst (λ (k : ℕ). is_position g k ≡ true → (w : Useful g k) (l : Loops g k) → ShowsRunaway g (shown g w.way_in w.way_in) l.text (shown g w.way_out w.way_out)) pivot.1
-        (λ i w l. loops_runaway g fit.trim i w l) first.0
+        subst (λ (k : ℕ). is_position g k ≡ true → (w : Useful g k) (l : Loops g k) → Nearest g k w.way_in → ShowsRunaway g (shown g w.way_in w.way_in) l.text (shown g w.way_out w.way_out)) pivot.1
+        (λ i w l near. loops_runaway g fit.trim i w l near) first.0
 
     -- each of the three searches finds its goal; m is the set of q alone
     module _ {t : Steps} (tables : Tables g t) (m : ℕ) (only : (j : ℕ) → has_bit m j ≡ eqb q j) where
@@ -246,6 +256,13 @@ module _ {b : Built} {more : List ℕ} (fit : Vettable b more) where
 
       pub way_in_short : {e e' : List ℕ} {r : ℕ} → ShownRoute t e e' m 0 0 r → r ≤ 60
       way_in_short s = omega (arith, (routed tables zero-le s).short, s.size, fit.bounded.few)
+
+      -- letters that lead to q lead there by a route, and no route there is shorter
+      way_in_nearest : {e e' : List ℕ} {r : ℕ} → (s : ShownRoute t e e' m 0 0 r) → Nearest g q s.nodes
+      way_in_nearest s u h =
+          let l = led g 0 u q h in
+          let meets = goal_at m 0 l.way zero-le l.goes ∙ ap (has_bit m) l.comes ∙ only q ∙ eq-eqb q q refl in
+          omega (arith, s.nearest l.way (route_chain (alone t) tables.rows 0 l.way (omega arith) l.goes) meets, l.size, s.size)
 
       pub way_out_some : (e e' : List ℕ) (base : ℕ) (r : Option ℕ) → Shown b.letters (alone t) e e' (OnePath b.lasts) q base r → IsSome r
       way_out_some e e' base r = route_some tables b.lasts e e' base r useful.way_out low useful.goes_out useful.ends
@@ -289,7 +306,7 @@ module _ {b : Built} {more : List ℕ} (fit : Vettable b more) where
               x = text tx.nodes;
               y = text ty.nodes;
               z = text tz.nodes;
-              shows = shows_same i.text w.text o.text (at_pivot ways (parting_loops g q w.walks));
+              shows = shows_same i.text w.text o.text (at_pivot ways (parting_loops g q w.walks) (way_in_nearest tx));
               first = sym sx;
               second = sym sy;
               third = sym sz;

@@ -12,8 +12,8 @@ use graph::Built;
 use nodes::Steps;
 use search::{Goal, Scratch};
 
-// A verdict, with the lengths of the texts at the beginning of the evidence that show it: of a steady pattern a text with two
-// readings; of a runaway one a way to its first pivot, a text with two loops there, and a way to an end.
+// A verdict, with the lengths of the texts at the beginning of the evidence that show it: of a steady pattern a shortest text with two
+// readings; of a runaway one a shortest way to its first pivot, a text with two loops there, and a way to an end.
 #[derive(Clone, Copy, PartialEq, Eq, Debug)]
 pub enum Verdict {
     Single,

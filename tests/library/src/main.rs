@@ -1,9 +1,9 @@
 //! Tests of the library against the rules: specimens, every byte in patterns and in answers, French and Spanish texts, points taken
 //! off, every byte in a credit, intervals with every bound and every byte in them and beside the same patterns written out, edges of every
 //! refusal, the last positions and the first past them, links by the hundred and counts at 2^63 by links, the letters that a verdict shows,
-//! answers short and long, where an answer goes wrong, calls one after another, lent scratch, threads, what the pages claim, and random
-//! patterns and answers against an independent model. The last line is 'N passed, M failed'. Arguments: how many random patterns, and a
-//! seed.
+//! that no text is shorter than what it shows, answers short and long, where an answer goes wrong, calls one after another, lent scratch,
+//! threads, what the pages claim, and random patterns and answers against an independent model. The last line is 'N passed, M failed'.
+//! Arguments: how many random patterns, and a seed.
 
 mod library;
 mod model;
@@ -20,6 +20,9 @@ struct Tally {
     failed: u64,
     /// how many random answers went wrong at the first letter, between the first and the last, at the last, and nowhere
     wrong: [usize; 4],
+    /// for how many patterns the model went through the texts for a shortest one, by verdict, and for how many it gave up
+    searched: [usize; 3],
+    given_up: usize,
 }
 
 impl Tally {
@@ -57,6 +60,27 @@ impl Tally {
         self.check(wrong.iter().all(|n| *n >= least), || format!("{what}: too few answers of a kind, {wrong:?}"));
     }
 
+    /// The text that a verdict shows has as many letters as a shortest one in the model; for single there is none. Not where the model
+    /// gave up.
+    fn as_short(&mut self, pattern: &[u8], verdict: u8, text: Option<&[u8]>, shortest: Option<Option<Vec<u8>>>) {
+        let Some(shortest) = shortest else {
+            self.given_up += 1;
+            return;
+        };
+        self.searched[usize::from(verdict)] += 1;
+        let told = |s: Option<&[u8]>| s.map_or("none".into(), |s| format!("{}, {} letters", show(s), s.len()));
+        let both = || format!("shows {}; a shortest one is {}", told(text), told(shortest.as_deref()));
+        self.check(text.map(<[u8]>::len) == shortest.as_ref().map(Vec::len), || format!("vet {}: {}", show(pattern), both()));
+    }
+
+    /// A shortest text was looked for often enough since the last time, for steady patterns and for runaway ones, and few were given up.
+    fn all_searched(&mut self, least: usize, what: &str) {
+        let ([single, steady, runaway], given_up) = (std::mem::take(&mut self.searched), std::mem::take(&mut self.given_up));
+        println!("{what}: shortest texts looked for, single {single}, steady {steady}, runaway {runaway}, given up {given_up}");
+        self.check(steady.min(runaway) >= least, || format!("{what}: too few shortest texts, {steady} and {runaway}"));
+        self.check(given_up <= 2 + (single + steady + runaway) / 100, || format!("{what}: {given_up} patterns given up"));
+    }
+
     fn same<T: PartialEq + std::fmt::Debug>(&mut self, got: T, want: T, what: &str) {
         self.check(got == want, || format!("{what}: got {got:?}, want {want:?}"));
     }
@@ -69,6 +93,9 @@ fn show(b: &[u8]) -> String {
 
 const EVIDENCE: usize = 4096;
 const MOST: u64 = 1 << 63;
+
+/// How many texts that do different things the model goes through for a shortest one.
+const TEXTS: usize = 20_000;
 
 fn refuses(t: &mut Tally, pattern: &[u8], refusal: u8) {
     let name = format!("{} ({} bytes)", show(&pattern[..pattern.len().min(40)]), pattern.len());
@@ -103,7 +130,9 @@ fn marks_and_takes(t: &mut Tally, pattern: &[u8], answer: &[u8], count: u64, bes
 /// What a verdict shows, checked by counting readings in the model.
 fn evidence(t: &mut Tally, pattern: &[u8], p: &model::Pattern, verdict: u8) {
     let n = p.positions.len();
-    let Ok(Vetted::Verdict { verdict: got, positions, texts }) = vet(pattern, EVIDENCE, pattern.len() as u8) else {
+    let vetted = vet(pattern, EVIDENCE, pattern.len() as u8);
+    t.check(vet_in(pattern, EVIDENCE, SCRATCH, pattern.len() as u8) == vetted, || format!("vet {}: not the same in lent scratch", show(pattern)));
+    let Ok(Vetted::Verdict { verdict: got, positions, texts }) = vetted else {
         t.check(false, || format!("vet {}: no verdict", show(pattern)));
         return;
     };
@@ -112,11 +141,15 @@ fn evidence(t: &mut Tally, pattern: &[u8], p: &model::Pattern, verdict: u8) {
     let [x, y, z] = &texts[..] else { unreachable!() };
     t.check(texts.concat().iter().all(|b| model::is_letter(*b)), || format!("vet {}: evidence is no text", show(pattern)));
     match verdict {
-        0 => t.check(x.is_empty() && y.is_empty() && z.is_empty(), || format!("vet {}: evidence for single", show(pattern))),
+        0 => {
+            t.check(x.is_empty() && y.is_empty() && z.is_empty(), || format!("vet {}: evidence for single", show(pattern)));
+            t.as_short(pattern, 0, None, p.shortest_with_two(TEXTS));
+        }
         1 => {
             t.check(x.len() <= most && y.is_empty() && z.is_empty(), || format!("vet {}: lengths", show(pattern)));
             t.check(p.count_from_the_end(x, 2) >= 2, || format!("vet {}: {} has no two readings", show(pattern), show(x)));
-            first_for_two(t, pattern, p, x, &[], &[]);
+            first_for_two(t, pattern, p, 0, x, &[], &[]);
+            t.as_short(pattern, 1, Some(x), p.shortest_with_two(TEXTS));
         }
         _ => {
             t.check(x.len() <= n && !x.is_empty() && z.len() <= n && !y.is_empty() && y.len() <= most, || format!("vet {}: lengths", show(pattern)));
@@ -126,17 +159,18 @@ fn evidence(t: &mut Tally, pattern: &[u8], p: &model::Pattern, verdict: u8) {
                 t.check(p.count_from_the_end(&whole, 1 << 40) >= 1 << k, || format!("vet {}: fewer than 2^{k} readings", show(pattern)));
                 text.extend(y);
             }
-            first_for_two(t, pattern, p, x, y, z);
+            let pivot = p.first_pivot();
+            first_for_two(t, pattern, p, pivot, x, y, z);
+            t.as_short(pattern, 2, Some(x), p.shortest_to(pivot, TEXTS));
         }
     }
 }
 
 /// There are two different readings over x y z, along which each letter is the first, in the order of letters shown, that both sets hold; for
-/// a runaway pattern both are at the first pivot after x and after y, and are one path in x and in z.
-fn first_for_two(t: &mut Tally, pattern: &[u8], p: &model::Pattern, x: &[u8], y: &[u8], z: &[u8]) {
+/// a runaway pattern both are at the first pivot, which is given, after x and after y, and are one path in x and in z.
+fn first_for_two(t: &mut Tally, pattern: &[u8], p: &model::Pattern, pivot: usize, x: &[u8], y: &[u8], z: &[u8]) {
     let text = [x, y, z].concat();
     let Some(all) = p.readings(&text, 3000) else { return };
-    let pivot = if y.is_empty() { 0 } else { p.first_pivot() };
     let (from, to) = (x.len(), x.len() + y.len());
     let at_pivot = |a: &[model::Step], i: usize| a[i - 1].position == pivot;
     let fits = |a: &Vec<model::Step>, b: &Vec<model::Step>| {
@@ -400,6 +434,243 @@ fn every_letter_shown(t: &mut Tally) {
             shows(t, &[b"(", &class[..], b"*)*"].concat(), [&[*b], &[*b], b""]);
         }
     }
+}
+
+/// The text shown for a steady pattern, or x for a runaway one, has so many letters, in lent scratch too.
+fn letters_are(t: &mut Tally, pattern: &[u8], verdict: u8, letters: usize) {
+    verdict_is(t, pattern, verdict);
+    for got in [vet(pattern, EVIDENCE, 6), vet_in(pattern, EVIDENCE, SCRATCH, 8)] {
+        let found = match got {
+            Ok(Vetted::Verdict { texts, .. }) => texts[0].len(),
+            _ => 0,
+        };
+        t.same(found, letters, &format!("vet {}, the letters of the text or of x", show(pattern)));
+    }
+}
+
+/// No text with two readings is shorter than the one shown, and none that leads to the first pivot is shorter than x. The lengths are worked
+/// out by hand. Among the patterns are many in which a search comes to a longer text if it goes deep first, or to the nearest place where two
+/// readings part and from there to the nearest end, or if it takes two that have parted for two that have not.
+fn shortest_texts(t: &mut Tally) {
+    let steady: [(&[u8], usize); 67] = [
+        // a long way by low positions and a short one by high ones, or the other way round
+        (b"abcdef(g|g)|h(i|i)", 2),
+        (b"h(i|i)|abcdef(g|g)", 2),
+        (b"(abcdef|g)(h|h)", 2),
+        (b"(g|abcdef)(h|h)", 2),
+        (b"(abcd|e)(fghi|j)(k|k)(lmn|o)", 4),
+        (b"(e|abcd)(j|fghi)(k|k)(o|lmn)", 4),
+        (b"a?b?c?d?e?(f|f)", 1),
+        (b"(f|f)a?b?c?d?e?", 1),
+        (b"a*b*c*d*(e|e)", 1),
+        (b"a+b+c+d+(e|e)|(f|f)", 1),
+        (b"(f|f)|a+b+c+d+(e|e)", 1),
+        (b"(a(b(c(d)?)?)?)?(e|e)(f(g(h)?)?)?", 1),
+        (b"a{3,9}(b|b)c{2,8}", 6),
+        (b"(a{9}|b{2})(c|c)(d{2}|e{9})", 5),
+        (b"(a{50}|b)(c|c)", 2),
+        (b"(b|a{50})(c|c)", 2),
+        // the readings part early and the end is far, or they part late and it is near
+        (b"(a|a)bcdefg|hij(k|k)", 4),
+        (b"hij(k|k)|(a|a)bcdefg", 4),
+        (b"abcdef(g|g)|(h|h)ij", 3),
+        (b"(h|h)ij|abcdef(g|g)", 3),
+        (b"ab(c|c)de|(f|f)ghijk|lmnop(q|q)", 5),
+        (b"lmnop(q|q)|(f|f)ghijk|ab(c|c)de", 5),
+        (b"(a|a)(bcdef|g)", 2),
+        (b"(a|a)(g|bcdef)", 2),
+        (b"(a|a)(b(c(d)?)?)?", 1),
+        // they part, and come together at a position where one reading alone comes sooner
+        (b"(c|(a|a)b)d|eeee(f|f)", 3),
+        (b"eeee(f|f)|(c|(a|a)b)d", 3),
+        (b"((a|a)bc|d)e|ffff(g|g)", 4),
+        (b"(a|bc|(d|d)ef)g|h{5}(i|i)", 4),
+        (b"(a|a)b(c|c)", 3),
+        // one text cut in two ways
+        (b"(a|ab)(c|bc)", 3),
+        (b"(ab|a)(bc|c)", 3),
+        (b"(a|ab)(bcd|cd)(e|de)", 5),
+        (b"a{2,3}a{2,3}", 5),
+        (b"a{3,}a{3,}", 7),
+        (b"a{4,7}a{5,6}", 10),
+        (b"(a{2,3}){3}", 7),
+        (b"(a{1,2}){10}", 11),
+        (b"(a{5,6}){9}", 46),
+        (b"[a-c]{1,3}[c-e]{1,3}", 3),
+        (b".{0,5}a.{0,5}", 2),
+        (b"(.*,){2}.*", 3),
+        // branches with repeats
+        (b"abcd*e|abcf*e", 4),
+        (b"abc*d|ab?d", 3),
+        (b"abcd*e|ab(c|f)d?e|g(h|h)ijk", 4),
+        (b"abcd+e|abcdd?de|f{6}(g|g)", 6),
+        // two readings only after rounds of a repeat
+        (b"(aa)*|(aaa)*", 6),
+        (b"(aaa)*|(aa)*", 6),
+        (b"(aa)+|(aaa)+", 6),
+        (b"(ab)*a|(aba)*", 3),
+        (b"(ab)*|(abc)*|(abab)?", 4),
+        (b"(ab)*(abababc|c)", 7),
+        (b"(abc)*(abcabcabd|abd)", 9),
+        (b"(a{3})*a|(a{5})*aa", 7),
+        (b"(a{3})*b|(a{4})*b", 1),
+        (b"(a{3})+b|(a{4})+b", 13),
+        (b"(a{2})*|(a{3})*|(a{5})*", 6),
+        (b"(a{4})*|(a{6})*", 12),
+        (b"(a{7})*|(a{11})*", 77),
+        (b"(a{29})*|(a{31})*", 899),
+        // the empty answer has one reading, however many parts can be empty
+        (b"a*|b*|a", 1),
+        (b"(a?)(a?)", 1),
+        (b"(a?b?)?(c|c)?", 1),
+        (b"(a*)?(a?)?", 1),
+        (b"(a?b?c?){2}", 1),
+        (b"(a{0,3}|b*)(a|c)?", 1),
+        (b"(a*|b*)(c*|d*)|(ac|bd)?", 2),
+    ];
+    let runaway: [(&[u8], usize); 39] = [
+        // a long way by low positions and a short one by high ones, or the other way round
+        (b"(abcdef|g)(h|h)*", 2),
+        (b"(g|abcdef)(h|h)*", 2),
+        (b"(abcd|e)(fghi|j)(k|k)*", 3),
+        (b"(e|abcd)(j|fghi)(k|k)*", 3),
+        (b"((abc|d)(e|fgh)|i)(j|j)*", 2),
+        (b"(i|(d|abc)(fgh|e))(j|j)*", 2),
+        (b"a?b?c?d?e?(f|f)*", 1),
+        (b"a*b*c*(d|d)*", 1),
+        (b"(a(b(c(d)?)?)?)?(e|e)*", 1),
+        (b"a{5,9}(b|b)*", 6),
+        (b"a{5,}(b|b)*", 6),
+        (b"(a{3}|b{2}|c{4})(d|d)*", 3),
+        (b"(ab{0,2}c|de{3})(f|f)*", 3),
+        (b"(a{50}|b)(c|c)*", 2),
+        (b"(b|a{50})(c|c)*", 2),
+        (b"(ab|c)(defg|defg|h)*", 2),
+        (b"(a|bc)(d(ee|ee))*", 2),
+        // repeats before it, of which no round is needed, or one
+        (b"(abc)*(d|d)*", 1),
+        (b"(abc)+(d|d)*", 4),
+        (b"((abc)+|e)(d|d)*", 2),
+        (b"(e|(abc)+)(d|d)*", 2),
+        (b"(a|b)*c(d|d)*", 2),
+        (b"(a(bc)*d|e)(f|f)*", 2),
+        (b"(a(bc)*d|efgh)(i|i)*", 3),
+        // the first by its number, not the nearest
+        (b"abc(d|d)*|(e|e)*", 4),
+        (b"(e|e)*|abc(d|d)*", 1),
+        (b"a?b(c|c)*|(d|d)*", 2),
+        (b"(abc|d)ef(g|g)*|h(i|i)*", 4),
+        // links doubled
+        (b"(a*)*", 1),
+        (b"((ab)*)*", 1),
+        (b"((a|b)*c?)*", 1),
+        (b"x(a?b?)*", 2),
+        (b"(abc|d)(e*)*", 2),
+        (b"abc?d?(e*f?)*", 3),
+        (b"x{3,8}((y*)*)*", 4),
+        (b"(a{7}|b)(c*)*|d(e*)*", 2),
+        // as long as there are positions
+        (b"a{58}(b|b)*", 59),
+        (b"a{59}(b*)*", 60),
+        (b"(ab){29}a(b+)+", 60),
+    ];
+    let given_up = t.given_up;
+    for (pattern, letters) in steady {
+        letters_are(t, pattern, 1, letters);
+    }
+    for (pattern, letters) in runaway {
+        letters_are(t, pattern, 2, letters);
+    }
+    t.same(t.given_up - given_up, 0, "how many of these the model gives up");
+    // too many texts for the model
+    letters_are(t, b"[ab]*a[ab]{20}(c|c)", 1, 22);
+    letters_are(t, b"[ab]*a[ab]{20}(c|c)*", 2, 22);
+    t.same(t.given_up - given_up, 2, "and of those with too many texts");
+}
+
+/// A shortest text that passes a test, as the model's search has it, beside all texts of these letters up to some length, tried one by
+/// one: how many letters it has.
+fn as_tried(t: &mut Tally, name: &str, letters: &[u8], found: Option<Option<Vec<u8>>>, passes: impl Fn(&[u8]) -> bool) -> Option<usize> {
+    t.check(found.is_some(), || format!("the model gives up {name}"));
+    let found = found.flatten();
+    t.check(found.iter().all(|s| passes(s)), || format!("the model: {name}, not {:?}", found.as_deref().map(show)));
+    let few = |n: &u32| letters.len().checked_pow(*n).is_some_and(|texts| texts <= 300);
+    let longest = (1..=12).rev().find(few).unwrap_or(1) as usize;
+    let length = found.map(|s| s.len());
+    let tried = model::first_text(letters, longest, passes).map(|s| s.len());
+    t.same(length.filter(|n| *n <= longest), tried, &format!("the model: {name}, {longest} letters at most"));
+    length
+}
+
+/// A pattern's shortest text with two readings and its shortest to the first pivot, as the model's search has them, beside all short texts:
+/// how many letters they have. The texts are made of one letter for each set of positions, and it is tested that no set is left out.
+fn one_by_one(t: &mut Tally, text: &[u8], p: &model::Pattern) -> [Option<usize>; 2] {
+    let apart = p.letters_apart();
+    let held = |b: u8| (1..=p.positions.len()).filter(|i| p.holds(*i, b)).collect::<Vec<usize>>();
+    let sets: BTreeSet<Vec<usize>> = model::letters().map(held).filter(|set| !set.is_empty()).collect();
+    let one_each = apart.len() == sets.len() && apart.iter().all(|(b, set)| *set == held(*b) && sets.contains(set));
+    t.check(one_each, || format!("the model: {}, a letter for each set of positions", show(text)));
+    let letters: Vec<u8> = apart.iter().map(|(b, _)| *b).collect();
+    let (two, to_pivot) = (format!("{}, two readings", show(text)), format!("{}, to the first pivot", show(text)));
+    let pivot = p.first_pivot();
+    [
+        as_tried(t, &two, &letters, p.shortest_with_two(TEXTS), |s| p.has_two(s)),
+        if pivot == 0 { None } else { as_tried(t, &to_pivot, &letters, p.shortest_to(pivot, TEXTS), |s| p.leads_to(s, pivot)) },
+    ]
+}
+
+/// The model's search for shortest texts, with two readings and to the first pivot, beside lengths worked out by hand and beside all short
+/// texts.
+fn shortest_in_model(t: &mut Tally, patterns: usize, seed: u64) {
+    let short: [(&[u8], [Option<usize>; 2]); 28] = [
+        (b"a", [None, None]),
+        (b"a?", [None, None]),
+        (b"a*|b*", [None, None]),
+        (b"(a?)*", [None, None]),
+        (b"(ab?)*", [None, None]),
+        (b"[ab]*a[ab]{3}", [None, None]),
+        (b"a|a", [Some(1), None]),
+        (b"a*|a*", [Some(1), None]),
+        (b"a?a?", [Some(1), None]),
+        (b".*a.*", [Some(2), None]),
+        (b"[a-m]*[m-z]*", [Some(1), None]),
+        (b"(a|ab)(c|bc)", [Some(3), None]),
+        (b"a{2,3}a{2,3}", [Some(5), None]),
+        (b"(aa)*|(aaa)*", [Some(6), None]),
+        (b"(aa)+|(aaa)+b?", [Some(6), None]),
+        (b"(ab)*(ababa|a)", [Some(5), None]),
+        (b"(a{3})*|(a{4})*", [Some(12), None]),
+        (b"(a|a)*", [Some(1), Some(1)]),
+        (b"(a*)*", [Some(2), Some(1)]),
+        (b"(a?b?)*", [Some(2), Some(1)]),
+        (b"((ab)*)*", [Some(4), Some(1)]),
+        (b"(a|b|ab)*c", [Some(3), Some(1)]),
+        (b"((a*)*)*", [Some(2), Some(1)]),
+        (b"b(a*)*", [Some(3), Some(2)]),
+        (b"(ab|b)(a*)*", [Some(3), Some(2)]),
+        (b"aaab?(a*)*", [Some(5), Some(4)]),
+        (b"(a|a)b(b|b)*", [Some(2), Some(3)]),
+        (b"a{4}(b+)+|b", [Some(6), Some(5)]),
+    ];
+    for (pattern, lengths) in short {
+        let p = model::read(pattern).expect("a good pattern");
+        let got = one_by_one(t, pattern, &p);
+        t.same(got, lengths, &format!("the model: {}, the lengths", show(pattern)));
+    }
+    let mut r = Random::new(seed ^ 0x5407);
+    let (mut tried, mut found) = (0, [0; 2]);
+    for _ in 0..patterns {
+        let text = random::pattern(&mut r, false);
+        let Ok(p) = model::read(&text) else { continue };
+        if p.positions.len() <= 5 && p.letters_apart().len() <= 3 {
+            let lengths = one_by_one(t, &text, &p);
+            (0..2).for_each(|k| found[k] += usize::from(lengths[k].is_some()));
+            tried += 1;
+        }
+    }
+    println!("random patterns beside all short texts: {tried}, with two readings {}, with a pivot {}", found[0], found[1]);
+    let least = (patterns / 100).saturating_sub(10);
+    t.check(found.iter().all(|n| *n >= least), || format!("only {found:?} patterns of {patterns} beside all short texts"));
 }
 
 /// The part with so many brackets around it, one in another, each with the repeat.
@@ -1844,6 +2115,7 @@ fn random_cases(t: &mut Tally, patterns: usize, seed: u64) {
         one_random_case(t, &mut r, &text, k % 50 == 0);
     }
     t.noted(patterns, "random answers");
+    t.all_searched((patterns / 20).saturating_sub(10), "random patterns");
 }
 
 /// A random pattern, with some answers, against the model; `vetted`: the verdict too, though there are many positions.
@@ -1906,6 +2178,7 @@ fn random_classes(t: &mut Tally, patterns: usize, seed: u64) {
         t.check(n.iter().all(|n| *n >= least), || format!("letters shown {what}: too few of a kind, {n:?}"));
     }
     t.noted(patterns, "random classes");
+    t.all_searched((patterns / 20).saturating_sub(10), "random classes");
 }
 
 /// Intervals that fill the positions up to the last, or pass it.
@@ -1916,6 +2189,20 @@ fn random_copies(t: &mut Tally, patterns: usize, seed: u64) {
         one_random_case(t, &mut r, &text, k % 50 == 0);
     }
     t.noted(patterns, "random copies");
+    t.all_searched((patterns / 100).saturating_sub(10), "random copies");
+}
+
+/// Ways of several lengths, of which the texts shown go the shortest.
+fn random_detours(t: &mut Tally, patterns: usize, seed: u64) {
+    let mut r = Random::new(seed ^ 0xde7045);
+    for _ in 0..patterns {
+        let text = random::detours(&mut r);
+        match model::read(&text) {
+            Err(refusal) => refuses(t, &text, refusal),
+            Ok(p) => evidence(t, &text, &p, p.verdict()),
+        }
+    }
+    t.all_searched((patterns / 10).saturating_sub(10), "random detours");
 }
 
 /// Repeats in repeats, and answers of many rounds: counts that pass 2^63 by sums and by links, and marks.
@@ -1990,7 +2277,7 @@ fn main() {
     let args: Vec<String> = std::env::args().collect();
     let patterns = args.get(1).map_or(20_000, |a| a.parse().expect("how many patterns"));
     let seed = args.get(2).map_or(1, |a| a.parse().expect("a seed"));
-    let mut t = Tally { passed: 0, failed: 0, wrong: [0; 4] };
+    let mut t = Tally { passed: 0, failed: 0, wrong: [0; 4], searched: [0; 3], given_up: 0 };
     specimens(&mut t);
     every_byte(&mut t);
     french_and_spanish(&mut t);
@@ -2009,6 +2296,8 @@ fn main() {
     counts_by_links(&mut t);
     letters_shown(&mut t);
     every_letter_shown(&mut t);
+    shortest_texts(&mut t);
+    shortest_in_model(&mut t, patterns / 5, seed);
     letters_taken(&mut t);
     beginnings(&mut t, patterns / 5, seed);
     edges(&mut t);
@@ -2018,10 +2307,12 @@ fn main() {
     scratch(&mut t);
     threads(&mut t);
     pages::run(&mut t);
+    t.all_searched(100, "patterns by hand");
     random_cases(&mut t, patterns, seed);
     random_rounds(&mut t, patterns / 10, seed);
     random_copies(&mut t, patterns / 10, seed);
     random_classes(&mut t, patterns / 10, seed);
+    random_detours(&mut t, patterns / 10, seed);
     println!("{} passed, {} failed", t.passed, t.failed);
     std::process::exit(i32::from(t.failed > 0));
 }

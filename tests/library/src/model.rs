@@ -3,7 +3,8 @@
 //! by plain sets of numbers, links are counted in a table, readings are enumerated one by one, and the verdict is decided by strongly
 //! connected components. Ways through the tree as it is written, which know neither positions nor copies, are counted besides, short
 //! texts of a pattern are listed from that tree, and a pattern's intervals can be written out as text. How many letters of an answer are
-//! taken is found from its end. Nothing here is shared with the program under test, neither code nor idea.
+//! taken is found from its end. A shortest text is found by going through the texts, of those that lead to the same states in as many ways
+//! one, or through every one. Nothing here is shared with the program under test, neither code nor idea.
 
 use std::collections::{BTreeSet, HashSet};
 use std::ops::Range;
@@ -54,6 +55,9 @@ type Table = Vec<Vec<u128>>;
 /// Entry n: texts of n letters.
 type Texts = Vec<BTreeSet<Vec<u8>>>;
 
+/// What a text does. Entry u: in how many ways it leads from state 0 to state u, up to a limit. A way is a list of steps.
+type Ways = Vec<u64>;
+
 /// A reading's step: the position, and which of the links from the position before leads there. They are numbered from 0, and so
 /// is the one that leads to a first.
 #[derive(Clone, Copy, Debug, PartialEq, Eq)]
@@ -80,6 +84,19 @@ const SHOWN: &[u8] = b"abcdefghijklmnopqrstuvwxyzABCDEFGHIJKLMNOPQRSTUVWXYZ01234
 /// All letters in that order: those from code 160 on come last, by code.
 pub fn letters_as_shown() -> impl Iterator<Item = u8> {
     SHOWN.iter().copied().chain(160..=255)
+}
+
+/// A text of at most `longest` of these letters that passes a test, if there is one, and of those that do a shortest: all are tried, the
+/// shorter ones before the longer ones.
+pub fn first_text(letters: &[u8], longest: usize, passes: impl Fn(&[u8]) -> bool) -> Option<Vec<u8>> {
+    let mut texts: Vec<Vec<u8>> = vec![Vec::new()];
+    for _ in 0..longest {
+        if let Some(text) = texts.iter().find(|s| passes(s)) {
+            return Some(text.clone());
+        }
+        texts = texts.iter().flat_map(|s| letters.iter().map(move |b| [&s[..], &[*b]].concat())).collect();
+    }
+    texts.into_iter().find(|s| passes(s))
 }
 
 struct Parser<'a> {
@@ -671,6 +688,80 @@ impl Pattern {
                 (0..b.lower).fold(more, |t, _| then(&once, &t))
             }
         }
+    }
+
+    /// A letter for each set of positions, the first that these hold and no others, with the set. Letters that no position holds are left
+    /// out.
+    pub fn letters_apart(&self) -> Vec<(u8, Vec<usize>)> {
+        let mut holders: Vec<Vec<usize>> = vec![Vec::new(); 256];
+        for (k, position) in self.positions.iter().enumerate() {
+            position.letters.iter().for_each(|b| holders[usize::from(*b)].push(k + 1));
+        }
+        let mut met = HashSet::from([Vec::new()]);
+        let each = letters_as_shown().map(|b| (b, holders[usize::from(b)].clone()));
+        each.filter(|(_, held)| met.insert(held.clone())).collect()
+    }
+
+    /// What a text does with one letter more, which these positions hold.
+    fn letter_on(&self, ways: &Ways, held: &[usize], limit: u64) -> Ways {
+        let links = |u: usize, i: usize| if u == 0 { u64::from(self.firsts.contains(&i)) } else { self.links[u][i] };
+        let from: Vec<usize> = (0..ways.len()).filter(|u| ways[*u] > 0).collect();
+        let mut on = vec![0; ways.len()];
+        for i in held {
+            on[*i] = from.iter().map(|u| ways[*u] * links(*u, *i)).sum::<u64>().min(limit);
+        }
+        on
+    }
+
+    /// A shortest text that does what passes the test, if there is one. The texts are gone through letter by letter, those of one length
+    /// before the longer ones. Of texts that do the same only one is made longer: with the same letters after them they do the same again.
+    /// As long as there are no more than `most` that do different things.
+    fn shortest(&self, limit: u64, most: usize, passes: impl Fn(&Ways) -> bool) -> Option<Option<Vec<u8>>> {
+        let letters = self.letters_apart();
+        let before: Ways = (0..=self.positions.len()).map(|u| u64::from(u == 0)).collect();
+        let mut met = HashSet::from([before.clone()]);
+        let mut texts = vec![(Vec::new(), before)];
+        while !texts.is_empty() {
+            if let Some((text, _)) = texts.iter().find(|(_, ways)| passes(ways)) {
+                return Some(Some(text.clone()));
+            }
+            let mut longer = Vec::new();
+            for (text, ways) in &texts {
+                for (b, held) in &letters {
+                    let on = self.letter_on(ways, held, limit);
+                    if met.insert(on.clone()) {
+                        longer.push(([&text[..], &[*b]].concat(), on));
+                    }
+                }
+                if met.len() > most {
+                    return None;
+                }
+            }
+            texts = longer;
+        }
+        Some(None)
+    }
+
+    /// A shortest text with two readings, if there is one.
+    pub fn shortest_with_two(&self, most: usize) -> Option<Option<Vec<u8>>> {
+        let ends: Vec<usize> = self.lasts.iter().copied().chain(self.empty.then_some(0)).collect();
+        self.shortest(2, most, |ways| ends.iter().map(|u| ways[*u]).sum::<u64>() >= 2)
+    }
+
+    /// A shortest text after which a position is possible, if there is one.
+    pub fn shortest_to(&self, position: usize, most: usize) -> Option<Option<Vec<u8>>> {
+        self.shortest(1, most, |ways| ways[position] > 0)
+    }
+
+    /// Has the text two readings, by all its lists of steps.
+    pub fn has_two(&self, text: &[u8]) -> bool {
+        self.readings(text, usize::MAX).is_some_and(|all| all.len() >= 2)
+    }
+
+    /// Does one of the text's lists of steps end at the position.
+    pub fn leads_to(&self, text: &[u8], position: usize) -> bool {
+        let lists = self.lists(text, usize::MAX).unwrap_or_default();
+        lists.iter().any(|l| l.last().is_some_and(|s| s.position == position))
     }
 
     fn share(&self, a: usize, b: usize) -> bool {

@@ -286,6 +286,59 @@ pub fn copies(r: &mut Random) -> Vec<u8> {
     out
 }
 
+/// Pieces of which a text has two readings, by positions or by links, at once or after some letters, or none has.
+const TWICE: &[&[u8]] = &[
+    b"(a|a)",
+    b"a?a?",
+    b"a*a*",
+    b"(a|ab)b?",
+    b"a{2,3}a{2,3}",
+    b"((ab)*|(aba)*)",
+    b"((aa)+|(aaa)+)",
+    b"(a|a)*",
+    b"(a*)*",
+    b"(a?b?)*",
+    b"((ab)*)*",
+    b"(ab|a|b)+",
+    b"(a*b)*",
+    b"a",
+];
+
+/// Some letters, perhaps in alternatives of several lengths, perhaps left out, gone round or in copies.
+fn detour(r: &mut Random, out: &mut Vec<u8>) {
+    out.push(b'(');
+    for k in 0..1 + r.below(3) {
+        if k > 0 {
+            out.push(b'|');
+        }
+        for _ in 0..1 + r.below(5) {
+            out.push(b'a' + r.below(8) as u8);
+        }
+    }
+    out.push(b')');
+    if r.chance(40) {
+        out.extend(*r.pick(&[&b"?"[..], b"*", b"+", b"{2}", b"{1,2}"]));
+    }
+}
+
+/// One to three branches, each with such a piece, and before it and after it ways of several lengths.
+pub fn detours(r: &mut Random) -> Vec<u8> {
+    let mut out = Vec::new();
+    for k in 0..1 + r.below(3) {
+        if k > 0 {
+            out.push(b'|');
+        }
+        for _ in 0..r.below(3) {
+            detour(r, &mut out);
+        }
+        out.extend(*r.pick(TWICE));
+        for _ in 0..r.below(3) {
+            detour(r, &mut out);
+        }
+    }
+    out
+}
+
 /// A text of the part, or of some prefix of a walk through it; `left` is how many parts the walk may still enter.
 fn walk(r: &mut Random, p: &Pattern, part: &Part, out: &mut Vec<u8>, left: &mut usize) {
     if *left == 0 {
