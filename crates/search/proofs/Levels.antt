@@ -37,6 +37,7 @@ module _ {E : ℕ → ℕ → Type 0} {T : ℕ → Bool} {s : List ℕ} {h t : �
       let r = level n (back_of s (suc i)) (omega arith) (omega arith) in
       (suc r.0, later (omega arith) r.1)
 
+  -- it rises along the queue
   rises : (m i j n : ℕ) → i ≤ j → j < t → Behind s i m → Behind s j n → m ≤ n
   rises zero i j n l k b c = zero-le
   rises (suc m) i j n l k b c =
@@ -71,5 +72,6 @@ module _ {E : ℕ → ℕ → Type 0} {T : ℕ → Bool} {s : List ℕ} {h t : �
         omega arith)
         (le_or_lt h j)
 
+    -- so the way back from the i-th is as short as any way from the first
     pub no_nearer : (u : ℕ) → queue s 0 ≡ u → (c : List ℕ) → Chain E u c → test (end_of u c) ≡ true → n ≤ length c
     no_nearer u is c k e = omega (arith, along c 0 0 w.begun first (subst (λ (x : ℕ). Chain E x c) (sym is) k) (ap (λ (x : ℕ). test (end_of x c)) is ∙ e))
