@@ -2,7 +2,8 @@
 # make run-latin1  the same with a sample of French and Spanish patterns, which is converted from UTF-8 to ISO 8859-1
 # make show PATTERN='..' ANSWER='..'  vets a pattern with the example client in C and marks an answer, which may be left out
 # make test   proves every crate, tries every must-fail edit, runs every test; the last line is 'N passed, M failed'
-# make bench  prints how the library's speed compares with unverified programs
+# make bench  prints how the library's speed compares with unverified programs; PART=monday one part of it, several in quotes, of
+#   marking, vetting, reading, wrong, growth, short and monday, the last of which takes some fifteen minutes
 # make soak   random tests, N patterns from a SEED
 # make install PREFIX=..  the header, the library, the program and a pkg-config file; make uninstall PREFIX=.. removes them
 # make fmt    lays the sources out
@@ -66,7 +67,7 @@ $(CLIENT): examples/client.c include/marking.h $(LIBRARY)
 	@$(CC) -std=c99 -O2 -Wall -Wextra -pedantic -Iinclude examples/client.c $(LIBRARY) -o $@
 
 bench: $(LIBRARY)
-	@CARGO_TARGET_DIR=target/bench cargo run --release --offline --quiet --manifest-path bench/Cargo.toml
+	@CARGO_TARGET_DIR=target/bench cargo run --release --offline --quiet --manifest-path bench/Cargo.toml -- $(PART)
 
 soak: $(LIBRARY)
 	@CARGO_TARGET_DIR=target/tests cargo run --release --offline --quiet --manifest-path tests/library/Cargo.toml -- $(N) $(SEED)

@@ -14,6 +14,9 @@ extern "C" {
 /// The count, the mark and the letters taken, or the refusal.
 type Marked = Result<(u64, i32, usize), u8>;
 
+/// A program that marks an answer by a pattern.
+type Marker = fn(&[u8], &[u8]) -> Marked;
+
 fn mark(pattern: &[u8], answer: &[u8]) -> Marked {
     let mut count = 0;
     let r = unsafe { marking_mark(pattern.as_ptr(), pattern.len(), answer.as_ptr(), answer.len(), &mut count) };
@@ -64,6 +67,10 @@ impl Random {
         self.0 = self.0.wrapping_mul(6364136223846793005).wrapping_add(1442695040888963407);
         (self.0 >> 33) as usize % n
     }
+
+    fn text(&mut self, letters: &[u8], n: usize) -> Vec<u8> {
+        (0..n).map(|_| letters[self.below(letters.len())]).collect()
+    }
 }
 
 const ORDINARY: &[u8] = b"(th=1e|a=1) (qui=2ck|sl=1ow) (brown|red)? ?fox(es)? (jump(s|ed)?|ran) ove=1r .*";
@@ -75,22 +82,39 @@ fn latin1(text: &str) -> Vec<u8> {
     text.chars().map(|c| u8::try_from(c).expect("a letter of ISO 8859-1")).collect()
 }
 
+/// 60 positions, each with two or four that may come next, in two branches of 13 and 17 steps: after some letters all are possible.
+fn busy(atoms: &str) -> String {
+    format!("({}|{})*", atoms.repeat(13), atoms.repeat(17))
+}
+
+/// 60 positions, each with four that may come next, two of them by two links: after 30 letters all are possible.
+fn twice() -> String {
+    format!("({})*", "((.|.)+)+".repeat(30))
+}
+
+/// 60 positions in four branches of steps of one letter or another.
+fn held_by_some() -> String {
+    format!("({}|{}|{}|{})*", "[a-d]".repeat(13), "[c-f]".repeat(15), "[e-h]".repeat(16), "[a-h]".repeat(16))
+}
+
+/// So many positions, an even number, each with four that may come next: after half as many letters all are possible.
+fn four_next(positions: usize) -> String {
+    format!("({})*", "(.|.)+".repeat(positions / 2))
+}
+
 fn loads() -> Vec<Load> {
     let mut r = Random(1);
-    let mut text = |letters: &[u8], n: usize| -> Vec<u8> { (0..n).map(|_| letters[r.below(letters.len())]).collect() };
-    // 60 positions, each with two or four that may come next, in two branches of 13 and 17 steps: after some letters all are possible
-    let busy = |atoms: &str| format!("({}|{})*", atoms.repeat(13), atoms.repeat(17)).into_bytes();
-    // 60 positions, each with four that may come next, two of them by two links: after 30 letters all are possible
-    let twice = format!("({})*", "((.|.)+)+".repeat(30)).into_bytes();
+    let mut text = |letters: &[u8], n| r.text(letters, n);
+    let twice = twice().into_bytes();
     vec![
         Load {
             name: "every position possible, 4,096 letters",
-            pattern: busy("(.|.)"),
+            pattern: busy("(.|.)").into_bytes(),
             answers: (0..20).map(|_| text(b"abcdefgh", 4096)).collect(),
         },
         Load {
             name: "each letter held by some, 4,096 letters",
-            pattern: format!("({}|{}|{}|{})*", "[a-d]".repeat(13), "[c-f]".repeat(15), "[e-h]".repeat(16), "[a-h]".repeat(16)).into_bytes(),
+            pattern: held_by_some().into_bytes(),
             answers: (0..20).map(|_| text(b"abcdefgh", 4096)).collect(),
         },
         Load {
@@ -112,7 +136,7 @@ fn loads() -> Vec<Load> {
         // as the first, and each position earns or takes off
         Load {
             name: "credits of both signs, 4,096 letters",
-            pattern: busy("(.=2|.=-3)"),
+            pattern: busy("(.=2|.=-3)").into_bytes(),
             answers: vec![b"abcdefgh".repeat(512); 20],
         },
         Load {
@@ -146,7 +170,7 @@ fn loads() -> Vec<Load> {
 }
 
 fn marking() {
-    println!("marking                                        library   by sets  all pairs   /sets  /all pairs");
+    println!("\nmarking                                        library   by sets  all pairs   /sets  /all pairs");
     for l in loads() {
         for a in &l.answers {
             let got = mark(&l.pattern, a);
@@ -154,7 +178,7 @@ fn marking() {
             assert_eq!(got, plain::mark_all_pairs(&l.pattern, a));
         }
         let n = if l.answers[0].len() > 1000 { 1 } else { 500 };
-        let run = |f: fn(&[u8], &[u8]) -> Marked, n: usize| {
+        let run = |f: Marker, n: usize| {
             time(7, || {
                 for _ in 0..n {
                     for a in &l.answers {
@@ -273,7 +297,7 @@ fn reading_of(rows: Vec<(&'static str, Vec<Vec<u8>>)>) {
     let mut ratios = Vec::new();
     for (name, list) in rows {
         let n = 200;
-        let run = |f: fn(&[u8], &[u8]) -> Marked| {
+        let run = |f: Marker| {
             time(7, || {
                 for _ in 0..n {
                     for p in &list {
@@ -293,19 +317,17 @@ fn reading_of(rows: Vec<(&'static str, Vec<Vec<u8>>)>) {
 /// A pattern, and a right answer of 4,096 letters, which goes wrong where its tenth letter is made another.
 fn at_the_tenth() -> Vec<(&'static str, Vec<u8>, Vec<u8>, u8)> {
     let mut r = Random(2);
-    let mut text = |letters: &[u8], n: usize| -> Vec<u8> { (0..n).map(|_| letters[r.below(letters.len())]).collect() };
+    let mut text = |letters: &[u8], n| r.text(letters, n);
     let letters = text(b"abcdefgh", 4096);
     let words = b"word after ".repeat(373)[..4096].to_vec();
     let ordinary = [&b"the quick brown fox jumped over "[..], &text(b"abcdefgh ", 4064)].concat();
-    let some = format!("({}|{}|{}|{})*", "[a-d]".repeat(13), "[c-f]".repeat(15), "[e-h]".repeat(16), "[a-h]".repeat(16));
-    let nearly_all = format!("({}|{})*", "([^~]|[^~])".repeat(13), "([^~]|[^~])".repeat(17));
     vec![
         ("[a-z]+( [a-z]+)*", b"[a-z]+( [a-z]+)*".to_vec(), words.clone(), b'#'),
         ("ordinary text", ORDINARY.to_vec(), ordinary, b'#'),
         ("[a-h]{60,}", b"[a-h]{60,}".to_vec(), letters.clone(), b'#'),
-        ("60 positions, each letter held by some", some.into_bytes(), letters.clone(), b'#'),
+        ("60 positions, each letter held by some", held_by_some().into_bytes(), letters.clone(), b'#'),
         (".{9}[^~].*", b".{9}[^~].*".to_vec(), letters.clone(), b'~'),
-        ("60 classes of all letters but one", nearly_all.into_bytes(), letters.clone(), b'~'),
+        ("60 classes of all letters but one", busy("([^~]|[^~])").into_bytes(), letters.clone(), b'~'),
         ("([a-z]+ ?)+", b"([a-z]+ ?)+".to_vec(), words, b'#'),
         ("60 positions, repeats in repeats", format!("({})*", "(([^~]|[^~])+)+".repeat(30)).into_bytes(), letters, b'~'),
     ]
@@ -336,18 +358,34 @@ fn wrong() {
     }
 }
 
-/// How the library's time grows with an answer's letters and with a pattern's positions, and what a term takes.
+/// The library, by sets and by all pairs, results compared. A row is of figures alone, as the picture's data have them.
+fn growth_row(at: usize, pattern: &str, answer: &[u8]) {
+    let pattern = pattern.as_bytes();
+    let got = mark(pattern, answer);
+    assert_eq!(got, plain::mark(pattern, answer));
+    assert_eq!(got, plain::mark_all_pairs(pattern, answer));
+    let run = |f: Marker| {
+        time(21, || {
+            black_box(f(black_box(pattern), black_box(answer))).ok();
+        }) * 1e6
+    };
+    println!("{at:44} {:8.1} {:9.1} {:10.1}", run(mark), run(plain::mark), run(plain::mark_all_pairs));
+}
+
+/// How the time grows with an answer's letters and with a pattern's positions, and what a term takes.
 fn growth() {
-    println!("\ngrowth with letters, every position possible");
-    let pattern = &loads()[0].pattern;
-    for letters in [0, 256, 512, 1024, 2048, 4096] {
-        let answer = vec![b'a'; letters];
-        let t = time(7, || {
-            black_box(mark(black_box(pattern), black_box(&answer))).ok();
-        });
-        println!("{letters:10} letters {:10.1}", t * 1e6);
+    let heading = |name: &str| println!("\n{name:46}library   by sets  all pairs");
+    for (next, pattern) in [("two", busy("(.|.)")), ("four", four_next(60))] {
+        heading(&format!("growth by letters, 60 positions, {next} next"));
+        for letters in [0, 256, 512, 1024, 2048, 4096] {
+            growth_row(letters, &pattern, &vec![b'a'; letters]);
+        }
     }
-    println!("\ngrowth with positions");
+    heading("growth by positions, 4,096 letters, four next");
+    for positions in [10, 20, 30, 40, 50, 60] {
+        growth_row(positions, &four_next(positions), &[b'a'; 4096]);
+    }
+    println!("\ngrowth of vetting by positions");
     let mut evidence = [0u8; 4096];
     for positions in [10, 20, 30, 40, 50, 60] {
         let pattern = b"a?".repeat(positions);
@@ -371,11 +409,151 @@ fn growth() {
     println!("\na term: 10,400 patterns {vetting:.3} s, 3.6 million answers {:.1} s", marking * 100.0);
 }
 
+/// Rounds in which the library and another program took turns: the best times, their ratio, which is given back, and the lowest and the
+/// highest ratio of a round.
+fn row(name: &str, rounds: &[[f64; 2]]) -> f64 {
+    let best = |side: usize| rounds.iter().map(|times| times[side]).fold(f64::MAX, f64::min);
+    let ratios = || rounds.iter().map(|[library, other]| library / other);
+    let (lowest, highest) = (ratios().fold(f64::MAX, f64::min), ratios().fold(0.0, f64::max));
+    let ratio = best(0) / best(1);
+    println!("{name:44} {:8.2} {:9.2} {ratio:8.3} {lowest:8.3} {highest:8.3}", best(0) * 1e6, best(1) * 1e6);
+    ratio
+}
+
+/// Answers of some 60 letters: those of the loads, words, and every position possible.
+fn short_loads() -> Vec<Load> {
+    let mut list: Vec<Load> = loads().into_iter().filter(|l| l.name.ends_with("60 letters")).collect();
+    list.push(Load { name: "words, some 60 letters", pattern: b"[a-z]+( [a-z]+)*".to_vec(), answers: vec![b"word after ".repeat(6)[..59].to_vec()] });
+    list.push(Load {
+        name: "every position possible, 60 letters",
+        pattern: four_next(60).into_bytes(),
+        answers: vec![Random(4).text(b"abcdefgh", 60)],
+    });
+    list
+}
+
+/// Short answers: the whole call, and without reading the pattern, which is the call less a mark of the empty answer on the same side. Five
+/// rounds, each of the best of a hundred turns of some two milliseconds.
+fn short_answers() {
+    println!("\nmarking a short answer, some 60 letters        library   by sets    ratio   lowest  highest");
+    for l in short_loads() {
+        for a in &l.answers {
+            assert_eq!(mark(&l.pattern, a), plain::mark(&l.pattern, a));
+        }
+        let turn = |f: Marker, answers: &[Vec<u8>], n: usize| {
+            time(1, || {
+                for a in (0..n).flat_map(|_| answers) {
+                    let _ = black_box(f(black_box(&l.pattern), black_box(a)));
+                }
+            }) / (n * answers.len()) as f64
+        };
+        let (answers, empty) = (&l.answers[..], vec![Vec::new(); l.answers.len()]);
+        let n = (0.002 / (turn(mark, answers, 10) * answers.len() as f64)) as usize + 1;
+        let (mut whole, mut marking) = ([[f64::MAX; 2]; 5], [[0.0; 2]; 5]);
+        for (whole, marking) in whole.iter_mut().zip(&mut marking) {
+            let mut reading = [f64::MAX; 2];
+            for _ in 0..100 {
+                for (side, f) in [mark, plain::mark as Marker].into_iter().enumerate() {
+                    whole[side] = whole[side].min(turn(f, answers, n));
+                    reading[side] = reading[side].min(turn(f, &empty, n));
+                }
+            }
+            *marking = [whole[0] - reading[0], whole[1] - reading[1]];
+        }
+        let name = l.name.split(',').next().unwrap_or(l.name);
+        row(&format!("{name}, whole call (aim 3)"), &whole);
+        row(&format!("{name}, less reading (aim 1.3)"), &marking);
+    }
+}
+
+/// A pattern of the Monday run, with what each of its answers begins with and the letters that come after.
+struct Monday {
+    name: &'static str,
+    pattern: String,
+    begin: &'static [u8],
+    letters: &'static [u8],
+}
+
+/// Whatever its letters are, each answer has a reading: ordinary text ends in `.*`, and the repeat of any other pattern goes round through
+/// 4,096 letters in some way, by sixteen `[a-h]` where each letter is held by some.
+fn mondays() -> Vec<Monday> {
+    let any = |name, pattern| Monday { name, pattern, begin: b"", letters: b"abcdefgh" };
+    vec![
+        any("every position possible, four next", four_next(60)),
+        // 240 links, and no two positions have the same states before them
+        any("the same, each with its own states before", format!("({})*", "(.+|.+|.+)".repeat(20))),
+        any("loops of three", format!("({})*", "(..*.*)+".repeat(20))),
+        any("two of four by two links", twice()),
+        any("three next in the mean", format!("({})*", "(.|.)(.|.)?".repeat(15))),
+        any("two next", busy("(.|.)")),
+        any("two next, credits of both signs", busy("(.=2|.=-3)")),
+        any("each letter held by some", held_by_some()),
+        Monday {
+            name: "ordinary text",
+            pattern: "(th=1e|a=1) (qui=2ck|sl=1ow) (brown|red)? ?fox(es)? (jump(s|ed)?|ran) ove=1r (the lazy dog )?.*".to_string(),
+            begin: b"the quick brown fox jumped over the lazy dog ",
+            letters: b"abcdefgh ",
+        },
+    ]
+}
+
+/// Patterns of 60 positions, each with at most four that may come next, a thousand answers to each, and three rounds in which the library
+/// and all pairs mark them all in turn: some fifteen minutes. For a trial, `MONDAY_ANSWERS=20` takes that many. The names are in quotes, as
+/// the picture's data have them.
+fn monday() {
+    let n = std::env::var("MONDAY_ANSWERS").map_or(1000, |n| n.parse().expect("MONDAY_ANSWERS is a number"));
+    println!("\nthe Monday run: a thousand answers of 4,096 letters, each with a reading, 60 positions, at most four next");
+    if n != 1000 {
+        println!("a trial: {n} answers, times as for a thousand");
+    }
+    println!("milliseconds for the thousand                  library all pairs    ratio   lowest  highest");
+    let mut r = Random(3);
+    let mut worst = (0.0, "");
+    for Monday { name, pattern, begin, letters } in mondays() {
+        let pattern = pattern.as_bytes();
+        assert!(matches!(plain::follows(pattern), Ok((60, 1..=4))), "{name}");
+        let answers: Vec<Vec<u8>> = (0..n).map(|_| [begin, &r.text(letters, 4096 - begin.len())].concat()).collect();
+        let run = |f: Marker| {
+            let t = Instant::now();
+            let marks: Vec<Marked> = answers.iter().map(|a| f(black_box(pattern), black_box(a))).collect();
+            (t.elapsed().as_secs_f64() / n as f64, marks)
+        };
+        let rounds = [(); 3].map(|()| {
+            let ((library, marks), (pairs, same)) = (run(mark), run(plain::mark_all_pairs));
+            assert!(marks == same, "{name}");
+            assert!(marks.iter().all(|m| m.is_ok_and(|(count, ..)| count > 0)), "{name}");
+            [library, pairs]
+        });
+        let ratio = row(&format!("\"{name}\""), &rounds);
+        if ratio > worst.0 {
+            worst = (ratio, name);
+        }
+    }
+    println!("the worst ratio: {:.3}, {} (the bound 0.5, the aim 0.05)", worst.0, worst.1);
+}
+
+/// The longest is the last.
+const PARTS: [(&str, fn()); 7] = [
+    ("marking", marking),
+    ("vetting", vetting),
+    ("reading", reading),
+    ("wrong", wrong),
+    ("growth", growth),
+    ("short", short_answers),
+    ("monday", monday),
+];
+
+/// The parts that are named, or all of them.
 fn main() {
-    println!("microseconds a call; both sides are release builds\n");
-    marking();
-    vetting();
-    reading();
-    wrong();
-    growth();
+    let named: Vec<String> = std::env::args().skip(1).collect();
+    if named.iter().any(|name| PARTS.iter().all(|(part, _)| part != name)) {
+        eprintln!("the parts: {}", PARTS.map(|(part, _)| part).join(" "));
+        std::process::exit(2);
+    }
+    println!("microseconds a call; both sides are release builds");
+    for (part, f) in PARTS {
+        if named.is_empty() || named.iter().any(|name| name == part) {
+            f();
+        }
+    }
 }

@@ -361,6 +361,13 @@ pub fn read(text: &[u8], built: &mut Built) -> Result<(), u8> {
     Ok(())
 }
 
+/// The number of positions, and the most that may come next after a state, the start or a position.
+pub fn follows(text: &[u8]) -> Result<(usize, u32), u8> {
+    let mut b = Built::new();
+    read(text, &mut b)?;
+    Ok((b.positions, b.follow.iter().map(|row| row.count_ones()).max().unwrap_or(0)))
+}
+
 fn plus(a: u64, b: u64) -> u64 {
     match a.checked_add(b) {
         Some(n) if n < 1 << 63 => n,

@@ -15,7 +15,7 @@ use lib.Dec.{eqb, ltb}
 use lib.IntN.{ℤ, pos, nat_abs, ◌+ℤ◌, +ℤ_idr}
 use lib.ListN.{length, get_or, length-append}
 use borrow.Author.Tests.{eqb-true, eq-eqb, ne_eqb, ltb-true, ltb-false}
-use Rattle.std.specs.Prelude.{if◌then◌else◌, Option, None, Some}
+use Rattle.std.specs.Prelude.{slice_index, if◌then◌else◌, Option, None, Some}
 use Rattle.std.specs.Borrow.{Bor}
 use Rattle.basics.specs.Folds.{fold_if, sum_if, any_if}
 use Rattle.basics.proofs.Tests.{and_parts, by_test, le_or_lt, if_yes, if_no, if_either}
@@ -32,7 +32,7 @@ use Rattle.graph.proofs.Walks.{position_of}
 use Rattle.graph.proofs.Best.{better_none, better_comm, better_assoc, added_better, added_twice, added_nothing, lowered_adds, lowered_low, raised_low}
 use Rattle.graph.proofs.Marks.{mark_none}
 use Rattle.graph.proofs.Taken.{possible_live}
-use Rattle.frontier.specs.Rows.{count_at, most_at, count_of, most_of, arriving, weight, weighted, Begun, Stepped}
+use Rattle.frontier.specs.Rows.{count_of, most_of, arriving, weight, weighted, Begun, Stepped}
 use Rattle.frontier.specs.declared.Links.{Links}
 use Rattle.frontier.specs.declared.Row.{Row}
 use Rattle.marks.specs.Answers.{best_of, After, links_of_tables, Summed}
@@ -101,22 +101,22 @@ module _ (g : Graph) (row : Row) (begun : Begun row) where
   row_begin = record {
     counted = λ t.
         ap (λ (x : ℕ). min x (2 ^ 63))
-        (over_one 0 ◌+◌ (λ u. count_at row.cells u * count_from g u t) ∙ zero-add (count_at row.cells 0 * readings g t)
+        (over_one 0 ◌+◌ (λ u. slice_index row.counts u * count_from g u t) ∙ zero-add (slice_index row.counts 0 * readings g t)
         ∙ ap (λ (x : ℕ). x * readings g t) begun.one ∙ one-mul (readings g t));
     marked = λ t.
-        over_one no_reading better (λ u. added (lowered 0 (most_at row.cells u)) (best_from g u t))
+        over_one no_reading better (λ u. added (lowered 0 (slice_index row.most u)) (best_from g u t))
         ∙ ap (λ (x : ℕ). added (lowered 0 x) (best_from g 0 t)) begun.nothing ∙ added_nothing (best_from g 0 t);
     low = λ u e.
         let z = eqb-true 0 u (sym (has_pow 0 u) ∙ ap (λ (m : ℕ). has_bit m u) (sym begun.alone) ∙ e) in
-        subst (λ (v : ℕ). most_at row.cells v ≤ 0) z (omega (arith, begun.nothing));
+        subst (λ (v : ℕ). slice_index row.most v ≤ 0) z (omega (arith, begun.nothing));
     reached = λ t v. over_one false ◌||◌ (λ u. leads g u t v);
   }
 
 -- the greatest raised sum of possible states
 sums_low : (g : Graph) (s : List ℕ) (row : Row) → After g s row → (m : ℕ) → ((u : ℕ) → has_bit m u ≡ true → has_bit row.active u ≡ true)
-    → most_of m (most_at row.cells) ≤ 18 * length s
+    → most_of m (slice_index row.most) ≤ 18 * length s
 sums_low g s row after m h =
-    fold_keeps 0 max (λ (a : ℕ). a ≤ 18 * length s) zero-le (λ a c. max_le a c (18 * length s)) (has_bit m) (most_at row.cells) 61 (λ u l e. after.low u (h u e))
+    fold_keeps 0 max (λ (a : ℕ). a ≤ 18 * length s) zero-le (λ a c. max_le a c (18 * length s)) (has_bit m) (slice_index row.most) 61 (λ u l e. after.low u (h u e))
 
 -- one letter more
 module _ (g : Graph) (bounded : Bounded g) (b : ℕ) (tables : Links) (holds : ℕ) (row row' : Row) (s : List ℕ)
@@ -139,15 +139,15 @@ module _ (g : Graph) (bounded : Bounded g) (b : ℕ) (tables : Links) (holds : �
   follows u i = ap some (links u i) ∙ some_tables (has_bit (before_at i) u) tables.more u i
 
   -- a count by the links, times what is to come
-  by_weights : (i u y : ℕ) → here i u ≡ true → weighted tables.more i (count_at row.cells) u * y ≡ count_at row.cells u * (g.links u i * y)
+  by_weights : (i u y : ℕ) → here i u ≡ true → weighted tables.more i (slice_index row.counts) u * y ≡ slice_index row.counts u * (g.links u i * y)
   by_weights i u y e =
       let w = weight tables.more u i in
-      let x = count_at row.cells u in
+      let x = slice_index row.counts u in
       ap (λ (z : ℕ). z * y) (mul_comm w x) ∙ mul_assoc x w y ∙ ap (λ (z : ℕ). x * (z * y)) (sym (links u i ∙ if_yes w 0 (has_bit (before_at i) u) (here_parts i u e).0))
 
   -- the greatest raised sum of those that arrive at i
   abbrev most : ℕ → ℕ
-  most i = most_of (arriving_at i) (most_at row.cells)
+  most i = most_of (arriving_at i) (slice_index row.most)
 
   most_low : (i : ℕ) → most i ≤ 18 * length s
   most_low i = sums_low g s row after (arriving_at i) (λ u e. (here_parts i u e).1)
@@ -159,7 +159,7 @@ module _ (g : Graph) (bounded : Bounded g) (b : ℕ) (tables : Links) (holds : �
   own_low : (i : ℕ) → own i ≤ 18
   own_low i = raised_low (own i) (subst (λ (c : ℤ). nat_abs c ≤ 9) (earned i) (bounded.credits i))
 
-  best_here : (i : ℕ) → has_bit row'.active i ≡ true → most_at row'.cells i ≡ most i + own i
+  best_here : (i : ℕ) → has_bit row'.active i ≡ true → slice_index row'.most i ≡ most i + own i
   best_here i e =
       let m = most_low i in
       let c = own_low i in
@@ -167,7 +167,7 @@ module _ (g : Graph) (bounded : Bounded g) (b : ℕ) (tables : Links) (holds : �
       st.marked i e ∙ ap (λ (x : ℕ). (most i + x) % 2 ^ 32) q ∙ mod-eq_of_lt (omega arith)
 
   -- one raised credit more, for one letter more
-  raised_on : (i : ℕ) → has_bit row'.active i ≡ true → lowered (length (s ++ (b ∷ []))) (most_at row'.cells i) ≡ lowered (length s) (most i) +ℤ g.credit i
+  raised_on : (i : ℕ) → has_bit row'.active i ≡ true → lowered (length (s ++ (b ∷ []))) (slice_index row'.most i) ≡ lowered (length s) (most i) +ℤ g.credit i
   raised_on i e =
       ap₂ lowered (length-append s (b ∷ [])) (best_here i e) ∙ sym (lowered_adds (length s) 1 (most i) (own i)) ∙ ap (λ (c : ℤ). lowered (length s) (most i) +ℤ c) (sym (earned i))
 
@@ -183,30 +183,30 @@ module _ (g : Graph) (bounded : Bounded g) (b : ℕ) (tables : Links) (holds : �
       (u.0, u.1.here)
 
   gathered : (t : List ℕ) (i : ℕ) → has_bit row'.active i ≡ true
-      → added (lowered (length (s ++ (b ∷ []))) (most_at row'.cells i)) (best_from g i t) ≡ best_of (arriving_at i) (λ u. added (lowered (length s) (most_at row.cells u)) (added (g.credit i) (best_from g i t)))
+      → added (lowered (length (s ++ (b ∷ []))) (slice_index row'.most i)) (best_from g i t) ≡ best_of (arriving_at i) (λ u. added (lowered (length s) (slice_index row.most u)) (added (g.credit i) (best_from g i t)))
   gathered t i e =
       let u = some_arrives i e in
       ap (λ (c : ℤ). added c (best_from g i t)) (raised_on i e) ∙ sym (added_twice (lowered (length s) (most i)) (g.credit i) (best_from g i t))
-      ∙ sym (best_added (here i) (most_at row.cells) 61 (arrives i) u.0 u.1 (length s) (added (g.credit i) (best_from g i t)))
+      ∙ sym (best_added (here i) (slice_index row.most) 61 (arrives i) u.0 u.1 (length s) (added (g.credit i) (best_from g i t)))
 
   pub row_on : After g (s ++ (b ∷ [])) row'
   row_on = record {
     counted = λ t.
-        sum_cut (2 ^ 63) (has_bit row'.active) (λ i. count_at row'.cells i * count_from g i t) (λ i. sum_if (here i) (λ u. count_at row.cells u * (g.links u i * count_from g i t)) 61) 61
+        sum_cut (2 ^ 63) (has_bit row'.active) (λ i. slice_index row'.counts i * count_from g i t) (λ i. sum_if (here i) (λ u. slice_index row.counts u * (g.links u i * count_from g i t)) 61) 61
         (λ i e.
-        sum_times (2 ^ 63) (here i) (weighted tables.more i (count_at row.cells)) 61 (count_at row'.cells i) (count_from g i t) (st.counted i e)
+        sum_times (2 ^ 63) (here i) (weighted tables.more i (slice_index row.counts)) 61 (slice_index row'.counts i) (count_from g i t) (st.counted i e)
         ∙ ap (λ (x : ℕ). min x (2 ^ 63))
-        (fold_same 0 ◌+◌ (here i) (here i) (λ u. weighted tables.more i (count_at row.cells) u * count_from g i t) (λ u. count_at row.cells u * (g.links u i * count_from g i t)) 61 (λ u l. refl)
+        (fold_same 0 ◌+◌ (here i) (here i) (λ u. weighted tables.more i (slice_index row.counts) u * count_from g i t) (λ u. slice_index row.counts u * (g.links u i * count_from g i t)) 61 (λ u l. refl)
         (λ u l. by_weights i u (count_from g i t))))
         ∙ ap (λ (x : ℕ). min x (2 ^ 63))
-        (sym (onward g bounded b tables.before.now row.active holds row'.active follows held st.states 0 ◌+◌ add-zero add_comm add_assoc (λ u x. count_at row.cells u * x)
-        (λ u. mul-zero (count_at row.cells u)) (λ u. mul-add (count_at row.cells u)) (λ u i. g.links u i * count_from g i t)))
+        (sym (onward g bounded b tables.before.now row.active holds row'.active follows held st.states 0 ◌+◌ add-zero add_comm add_assoc (λ u x. slice_index row.counts u * x)
+        (λ u. mul-zero (slice_index row.counts u)) (λ u. mul-add (slice_index row.counts u)) (λ u i. g.links u i * count_from g i t)))
         ∙ after.counted (b ∷ t) ∙ ap (λ (x : List ℕ). min (readings g x) (2 ^ 63)) (sym (append_assoc s (b ∷ []) t));
     marked = λ t.
-        fold_same no_reading better (has_bit row'.active) (has_bit row'.active) (λ i. added (lowered (length (s ++ (b ∷ []))) (most_at row'.cells i)) (best_from g i t))
-        (λ i. best_of (arriving_at i) (λ u. added (lowered (length s) (most_at row.cells u)) (added (g.credit i) (best_from g i t)))) 61 (λ i l. refl) (λ i l. gathered t i)
-        ∙ sym (onward g bounded b tables.before.now row.active holds row'.active follows held st.states no_reading better better_none better_comm better_assoc (λ u x. added (lowered (length s) (most_at row.cells u)) x) (λ u. refl)
-        (λ u. added_better (lowered (length s) (most_at row.cells u))) (λ u i. added (g.credit i) (best_from g i t)))
+        fold_same no_reading better (has_bit row'.active) (has_bit row'.active) (λ i. added (lowered (length (s ++ (b ∷ []))) (slice_index row'.most i)) (best_from g i t))
+        (λ i. best_of (arriving_at i) (λ u. added (lowered (length s) (slice_index row.most u)) (added (g.credit i) (best_from g i t)))) 61 (λ i l. refl) (λ i l. gathered t i)
+        ∙ sym (onward g bounded b tables.before.now row.active holds row'.active follows held st.states no_reading better better_none better_comm better_assoc (λ u x. added (lowered (length s) (slice_index row.most u)) x) (λ u. refl)
+        (λ u. added_better (lowered (length s) (slice_index row.most u))) (λ u i. added (g.credit i) (best_from g i t)))
         ∙ after.marked (b ∷ t) ∙ ap (best_from g 0) (sym (append_assoc s (b ∷ []) t));
     low = λ i e.
         let c = own_low i in
@@ -222,9 +222,9 @@ module _ (g : Graph) (bounded : Bounded g) (b : ℕ) (tables : Links) (holds : �
 -- where no state is possible, none will be
 pub row_stop : (g : Graph) (s t : List ℕ) (row : Row) → row.active ≡ 0 → After g s row → After g (s ++ t) row
 row_stop g s t row z after = record {
-  counted = λ q. ap (λ (x : ℕ). min x (2 ^ 63)) (none 0 ◌+◌ (λ u. count_at row.cells u * count_from g u q) (λ u. count_at row.cells u * count_from g u (t ++ q)))
+  counted = λ q. ap (λ (x : ℕ). min x (2 ^ 63)) (none 0 ◌+◌ (λ u. slice_index row.counts u * count_from g u q) (λ u. slice_index row.counts u * count_from g u (t ++ q)))
       ∙ after.counted (t ++ q) ∙ ap (λ (x : List ℕ). min (readings g x) (2 ^ 63)) (sym (append_assoc s t q));
-  marked = λ q. none no_reading better (λ u. added (lowered (length (s ++ t)) (most_at row.cells u)) (best_from g u q)) (λ u. added (lowered (length s) (most_at row.cells u)) (best_from g u (t ++ q)))
+  marked = λ q. none no_reading better (λ u. added (lowered (length (s ++ t)) (slice_index row.most u)) (best_from g u q)) (λ u. added (lowered (length s) (slice_index row.most u)) (best_from g u (t ++ q)))
       ∙ after.marked (t ++ q) ∙ ap (best_from g 0) (sym (append_assoc s t q));
   low = λ u e. absurd (true≢false (sym e ∙ ap (λ (m : ℕ). has_bit m u) z ∙ has_none u));
   reached = λ q v. none false ◌||◌ (λ u. leads g u q v) (λ u. leads g u (t ++ q) v) ∙ after.reached (t ++ q) v ∙ ap (λ (x : List ℕ). possible g x v) (sym (append_assoc s t q));
@@ -256,10 +256,10 @@ module _ (g : Graph) (s : List ℕ) (lasts : ℕ) (row : Row) (last : (u : ℕ) 
   ending = bit_and row.active lasts
 
   abbrev count : ℕ
-  count = count_of ending (count_at row.cells)
+  count = count_of ending (slice_index row.counts)
 
   abbrev greatest : ℕ
-  greatest = most_of ending (most_at row.cells)
+  greatest = most_of ending (slice_index row.most)
 
   both : (u : ℕ) → has_bit ending u ≡ (has_bit row.active u && g.last u)
   both u = has_and row.active lasts u ∙ ap (λ (x : Bool). has_bit row.active u && x) (sym (last u))
@@ -277,21 +277,21 @@ module _ (g : Graph) (s : List ℕ) (lasts : ℕ) (row : Row) (last : (u : ℕ) 
   counted_end : count ≡ min (readings g s) (2 ^ 63)
   counted_end =
       ap (λ (x : ℕ). min x (2 ^ 63))
-      (fold_same 0 ◌+◌ (has_bit ending) (has_bit ending) (count_at row.cells) (λ u. count_at row.cells u * 1) 61 (λ u l. refl) (λ u l e. sym (mul-one (count_at row.cells u)))
-      ∙ sym (at_end 0 ◌+◌ add-zero (λ u x. count_at row.cells u * x) (λ u. mul-zero (count_at row.cells u)) 1))
+      (fold_same 0 ◌+◌ (has_bit ending) (has_bit ending) (slice_index row.counts) (λ u. slice_index row.counts u * 1) 61 (λ u l. refl) (λ u l e. sym (mul-one (slice_index row.counts u)))
+      ∙ sym (at_end 0 ◌+◌ add-zero (λ u x. slice_index row.counts u * x) (λ u. mul-zero (slice_index row.counts u)) 1))
       ∙ after.counted [] ∙ ap (λ (x : List ℕ). min (readings g x) (2 ^ 63)) (append-nil s)
 
   best_end : 0 < ending → best_from g 0 s ≡ earns (lowered (length s) greatest)
   best_end some =
       let u = least_trailing 61 ending some (lt_of_le_of_lt (and_le_l row.active lasts) row.states) in
       sym (after.marked [] ∙ ap (best_from g 0) (append-nil s))
-      ∙ at_end no_reading better better_none (λ u x. added (lowered (length s) (most_at row.cells u)) x) (λ u. refl) (earns (pos 0))
-      ∙ best_added (has_bit ending) (most_at row.cells) 61 (count_trailing_zeros 61 ending) u.0 u.1.here (length s) (earns (pos 0))
+      ∙ at_end no_reading better better_none (λ u x. added (lowered (length s) (slice_index row.most u)) x) (λ u. refl) (earns (pos 0))
+      ∙ best_added (has_bit ending) (slice_index row.most) 61 (count_trailing_zeros 61 ending) u.0 u.1.here (length s) (earns (pos 0))
       ∙ ap earns (+ℤ_idr (lowered (length s) greatest))
 
   -- a count that is not 0 has a state that is counted
   some_end : (count ≡ 0 → ⊥) → 0 < ending
-  some_end d = ⊎_elim (λ l. let z : ending ≡ 0 = omega arith in absurd (d (ap (λ (x : ℕ). min x (2 ^ 63)) (walk_end 0 ◌+◌ (count_at row.cells) 61 ending (no_members ending z))))) (λ l. l) (le_or_lt ending 0)
+  some_end d = ⊎_elim (λ l. let z : ending ≡ 0 = omega arith in absurd (d (ap (λ (x : ℕ). min x (2 ^ 63)) (walk_end 0 ◌+◌ (slice_index row.counts) 61 ending (no_members ending z))))) (λ l. l) (le_or_lt ending 0)
 
   greatest_low : greatest ≤ 18 * length s
   greatest_low = sums_low g s row after ending (λ u e. (both_parts u e).0)

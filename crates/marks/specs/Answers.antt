@@ -1,13 +1,13 @@
 -- What the rows say of the answer. It is said of every way that the answer can go on: from the row alone the count and the mark of
 -- the whole answer follow, and which states will be possible.
-use Rattle.std.specs.Prelude.{◌≡◌, true, List, ◌++◌, ℕ, ◌*◌, ◌^◌, ◌≤◌, min, eqb, ℤ, pos, nat_abs, length, get_or, if◌then◌else◌}
+use Rattle.std.specs.Prelude.{◌≡◌, true, List, ◌++◌, ℕ, ◌*◌, ◌^◌, ◌≤◌, min, eqb, ℤ, pos, nat_abs, length, get_or, slice_index, if◌then◌else◌}
 use Rattle.basics.specs.Folds.{fold_if, any_if}
 use Rattle.bits.specs.Bits.{has_bit}
 use Rattle.graph.specs.Graph.{Graph, Bounded}
 use Rattle.graph.specs.Built.{lowered, credit_in}
 use Rattle.graph.specs.Readings.{count_from, readings, Best, no_reading, better, added, best_from, mark}
 use Rattle.graph.specs.Taken.{leads, possible, letters_taken}
-use Rattle.frontier.specs.Rows.{count_at, most_at, count_of, weight}
+use Rattle.frontier.specs.Rows.{count_of, weight}
 use Rattle.frontier.specs.declared.Links.{Links}
 use Rattle.frontier.specs.declared.Row.{Row}
 
@@ -17,9 +17,9 @@ best_of m row = fold_if no_reading better (has_bit m) row 61
 
 -- after the letters s, in the graph g. The credits of the row are sums of as many credits, each raised by 9.
 pub record After (g : Graph) (s : List ℕ) (row : Row) : Type 0 where
-  pub counted : (t : List ℕ) → count_of row.active (λ u. count_at row.cells u * count_from g u t) ≡ min (readings g (s ++ t)) (2 ^ 63)
-  pub marked : (t : List ℕ) → best_of row.active (λ u. added (lowered (length s) (most_at row.cells u)) (best_from g u t)) ≡ best_from g 0 (s ++ t)
-  pub low : (u : ℕ) → has_bit row.active u ≡ true → most_at row.cells u ≤ 18 * length s
+  pub counted : (t : List ℕ) → count_of row.active (λ u. slice_index row.counts u * count_from g u t) ≡ min (readings g (s ++ t)) (2 ^ 63)
+  pub marked : (t : List ℕ) → best_of row.active (λ u. added (lowered (length s) (slice_index row.most u)) (best_from g u t)) ≡ best_from g 0 (s ++ t)
+  pub low : (u : ℕ) → has_bit row.active u ≡ true → slice_index row.most u ≤ 18 * length s
   pub reached : (t : List ℕ) (v : ℕ) → any_if (has_bit row.active) (λ u. leads g u t v) 61 ≡ possible g (s ++ t) v
 
 -- how many links lead from state u to position i: none where u is not before it

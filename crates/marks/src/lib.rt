@@ -8,7 +8,7 @@ ghost use Rattle.graph.specs.Built.{graph_of_built};
 ghost use Rattle.graph.specs.Taken.{letters_taken};
 ghost use Rattle.marks.specs.Answers.{mark_of_sum, Answered, TablesSummed};
 
-use frontier::{Cell, Links, Row};
+use frontier::{Links, Row, Sum};
 use graph::Built;
 
 // What marking gives: the number of readings, 2^63 where it is that or more, the most credit that one earns, which may be below
@@ -42,7 +42,7 @@ pub fn mark(b: Built, more: &[u8; 3721], answer: &[u8]) -> Marked
 }
 
 // The mark of a greatest sum of as many credits as there are letters, each raised by 9; 0 where there is no reading.
-fn mark_of_sum(sum: Cell, letters: usize) -> i32
+fn mark_of_sum(sum: Sum, letters: usize) -> i32
     requires { (sum.most ≤ 18 * letters) × (letters ≤ 4096) }
     ensures { result ≡ mark_of_sum sum.count sum.most letters }
 {
@@ -55,7 +55,7 @@ fn mark_of_sum(sum: Cell, letters: usize) -> i32
 // What the rows come to, and after how many letters.
 #[derive(Clone, Copy)]
 struct End {
-    sum: Cell,
+    sum: Sum,
     taken: usize,
 }
 

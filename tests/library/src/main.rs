@@ -740,6 +740,35 @@ fn counts_by_links(t: &mut Tally) {
     }
 }
 
+/// Long answers by patterns of 60 positions, in which all counts stop at 2^63, those of all states but the first, or none, while the credits go
+/// on: as in the model.
+fn counts_that_stop(t: &mut Tally) {
+    let repeat = |part: &str, times: usize| format!("({})*", part.repeat(times));
+    let patterns = [
+        repeat("(.=1|.=-2)+", 30),
+        repeat("(.=1+|.=2+|.=-3+)", 20),
+        repeat("(..=5*.=-1*)+", 20),
+        repeat("(.=1.=4*|..=-4*|.=2)", 12),
+        repeat("((.=2|.=-9)+)+", 30),
+        repeat("(.+.=1*.*)+", 20),
+        format!(".=3*x?{}", repeat("(.=1|.=-2)+", 29)),
+        format!(".=-3*x?{}", repeat("((.=1|.)+)+", 29)),
+        format!(".*{}.=9", repeat("[a-d]=1?[c-h]=-1?", 29)),
+        repeat("[a-d]=1", 30) + &repeat("(a=2|[a-h])+", 15),
+        ".=1*.=-1*".repeat(30),
+        repeat(&".=1*.=-1*".repeat(30), 1),
+    ];
+    let mut r = Random::new(0x570b);
+    for pattern in patterns {
+        let p = model::read(pattern.as_bytes()).expect("a pattern");
+        t.same(p.positions.len(), 60, &format!("{pattern}: the number of positions"));
+        for letters in [1, 20, 31, 32, 33, 62, 63, 64, 120, 300] {
+            let answer: Vec<u8> = (0..letters).map(|_| b"abcdefgh"[r.below(8)]).collect();
+            as_in_model(t, pattern.as_bytes(), &p, &answer, None);
+        }
+    }
+}
+
 /// The one-letter answers that the pattern reads are these, of all 191.
 fn reads_exactly(t: &mut Tally, pattern: &[u8], want: impl IntoIterator<Item = u8>) {
     let want: Vec<u8> = want.into_iter().collect();
@@ -2294,6 +2323,7 @@ fn main() {
     copies_by_regexec(&mut t);
     many_links(&mut t);
     counts_by_links(&mut t);
+    counts_that_stop(&mut t);
     letters_shown(&mut t);
     every_letter_shown(&mut t);
     shortest_texts(&mut t);

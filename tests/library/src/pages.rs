@@ -42,8 +42,9 @@ pub fn run(t: &mut Tally) {
         t.same(found, claims, &format!("{page}: the number of claims"));
     }
     rule_names(t);
-    figures(t, "marking");
-    figures(t, "vetting");
+    for (name, points) in [("marking", 6), ("vetting", 6), ("marking-letters", 6), ("marking-positions", 6), ("monday", 9)] {
+        figures(t, name, points);
+    }
 }
 
 fn path(name: &str) -> PathBuf {
@@ -79,14 +80,16 @@ fn rule_names(t: &mut Tally) {
     t.check(found >= 30, || format!("only {found} definitions name a rule"));
 }
 
-/// Each point of a picture's data is a row of the benchmarks.
-fn figures(t: &mut Tally, name: &str) {
+/// Each point of a picture's data is a row of the benchmarks: its numbers, and before them its name in quotes, where it has one.
+fn figures(t: &mut Tally, name: &str, points: usize) {
     let page = file("docs/BENCHMARKS.md").replace(',', "");
-    let data = file(&format!("docs/pictures/{name}.dat"));
-    let points: Vec<&str> = data.lines().filter(|l| !l.starts_with('#')).collect();
-    t.same(points.len(), 6, &format!("{name}.dat: the number of points"));
-    for point in points {
-        let row = format!("| {} |", point.replace(' ', " | "));
+    let data = file(&format!("docs/pictures/{name}.dat")).replace(',', "");
+    let lines: Vec<&str> = data.lines().filter(|l| !l.starts_with('#')).collect();
+    t.same(lines.len(), points, &format!("{name}.dat: the number of points"));
+    for point in lines {
+        let (title, numbers) = point.strip_prefix('"').and_then(|p| p.split_once('"')).unwrap_or(("", point));
+        let cells = [title].into_iter().filter(|c| !c.is_empty()).chain(numbers.split_whitespace());
+        let row = format!("| {} |", cells.collect::<Vec<_>>().join(" | "));
         t.check(page.lines().any(|l| l == row), || format!("{name}.dat: {point}"));
     }
 }

@@ -1,9 +1,9 @@
 -- The members in `left` wait. Assumes nothing.
-use Rattle.frontier.specs.Rows.{count_at, most_at, Adds}
+use Rattle.std.proofs.Common.{slice_index}
 use Rattle.frontier.proofs.Gathers.{Gathering}
 use Rattle.frontier.proofs.Row.gather.Given as goal
 
-abbrev pub invariant-loop-u : goal.invariant-loop-u
-invariant-loop-u g l =
-    (goal.iterator-loop-u g).can_next l.u-iterator × (goal.iterator-loop-u g).is_finite l.u-iterator
-    × Gathering (Adds (goal.F-post g l.fn.add) (count_at l.self.cells)) (most_at l.self.cells) l.fn.members l.u-iterator.left l.count l.most
+abbrev pub invariant-loop-other : goal.invariant-loop-other
+invariant-loop-other l =
+    goal.iterator-loop-other.can_next l.other-iterator × goal.iterator-loop-other.is_finite l.other-iterator
+    × Gathering (slice_index l.self.counts) (slice_index l.self.most) l.fn.members l.other-iterator.left l.sum l.most
