@@ -19,38 +19,39 @@ module _ (w : ℕ → ℕ) (members : ℕ) where
     pub small : left < 2 ^ 61
     pub marked : max most (most_of left w) ≡ most_of members w
 
-  pub seeking_on : (left most t r most' : ℕ) → Seeking left most → Taken has_bit (λ (m : ℕ). m) left t r → most' ≡ max (w t) most → Seeking r most'
-  seeking_on left most t r most' h s m =
-      let fewer = s.fewer in
-      record { small = omega (arith, h.small); marked = omega (arith, h.marked, m, most_turn 61 left t r h.small s w) }
+  pub below : {left most t r : ℕ} → Seeking left most → Taken has_bit (λ (m : ℕ). m) left t r → t < 61
+  below {left} {t = t} h s = member_below 61 left t h.small s.least.here
+
+  pub seeking_start : members < 2 ^ 61 → Seeking members 0
+  seeking_start h = record { small = h; marked = omega arith }
+
+  module _ (left most : ℕ) (h : Seeking left most) where
+    pub seeking_on : (t r most' : ℕ) → Taken has_bit (λ (m : ℕ). m) left t r → most' ≡ max (w t) most → Seeking r most'
+    seeking_on t r most' s m =
+        let fewer = s.fewer in
+        record { small = omega (arith, h.small); marked = omega (arith, h.marked, m, most_turn 61 left t r h.small s w) }
+
+    pub seeking_end : ((i : ℕ) → has_bit left i ≡ false) → most ≡ most_of members w
+    seeking_end none = omega (arith, h.marked, walk_end 0 max w 61 left none)
 
 module _ (v w : ℕ → ℕ) (members : ℕ) where
   pub record Gathering (left count most : ℕ) : Type 0 where
-    pub small : left < 2 ^ 61
+    pub seeking : Seeking w members left most
     -- the members that were taken are below each that waits, and none had more than 2 ^ 64
     pub room : (t : ℕ) → has_bit left t ≡ true → count ≤ 2 ^ 64 * t
     pub counted : min (count + sum_if (has_bit left) v 61) (2 ^ 63) ≡ count_of members v
-    pub marked : max most (most_of left w) ≡ most_of members w
-
-  pub below : {left count most t r : ℕ} → Gathering left count most → Taken has_bit (λ (m : ℕ). m) left t r → t < 61
-  below {left} {t} h s = member_below 61 left t h.small s.least.here
 
   pub gathering_start : members < 2 ^ 61 → Gathering members 0 0
-  gathering_start h = record { small = h; room = λ t e. omega arith; counted = omega arith; marked = omega arith }
+  gathering_start h = record { seeking = seeking_start w members h; room = λ t e. omega arith; counted = omega arith }
 
   module _ (left count most : ℕ) (h : Gathering left count most) where
     pub gathering_on : (t r count' most' : ℕ) → Taken has_bit (λ (m : ℕ). m) left t r → count' ≤ count + 2 ^ 64 → min count' (2 ^ 63) ≡ min (count + v t) (2 ^ 63)
         → most' ≡ max (w t) most → Gathering r count' most'
-    gathering_on t r count' most' s l c m =
-        let fewer = s.fewer in
-        let greatest = most_turn 61 left t r h.small s w in
-        let marked = h.marked in
-        record {
-          small = omega (arith, h.small);
-          room = λ i e. let past = later i e in omega (arith, h.room t s.least.here, past, l);
-          counted = cut_sum (2 ^ 63) count' (count + v t) (sum_if (has_bit r) v 61) c ∙ omega (arith, h.counted, sum_turn 61 left t r h.small s v);
-          marked = omega arith;
-        }
+    gathering_on t r count' most' s l c m = record {
+      seeking = seeking_on w members left most h.seeking t r most' s m;
+      room = λ i e. let past = later i e in omega (arith, h.room t s.least.here, past, l);
+      counted = cut_sum (2 ^ 63) count' (count + v t) (sum_if (has_bit r) v 61) c ∙ omega (arith, h.counted, sum_turn 61 left t r h.seeking.small s v);
+    }
       where
         later : (i : ℕ) → has_bit r i ≡ true → t < i
         later i e =
@@ -60,7 +61,7 @@ module _ (v w : ℕ → ℕ) (members : ℕ) where
             (le_or_lt (suc t) i)
 
     pub gathering_end : ((i : ℕ) → has_bit left i ≡ false) → (min count (2 ^ 63) ≡ count_of members v) × (most ≡ most_of members w)
-    gathering_end none = (omega (arith, h.counted, walk_end 0 ◌+◌ v 61 left none), omega (arith, h.marked, walk_end 0 max w 61 left none))
+    gathering_end none = (omega (arith, h.counted, walk_end 0 ◌+◌ v 61 left none), seeking_end w members left most h.seeking none)
 
   -- the first member taken by itself
   pub gathering_first : (t r count : ℕ) → members < 2 ^ 61 → Taken has_bit (λ (m : ℕ). m) members t r → count ≤ 2 ^ 64 → min count (2 ^ 63) ≡ min (v t) (2 ^ 63) → Gathering r count (w t)

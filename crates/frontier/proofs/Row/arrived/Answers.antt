@@ -1,4 +1,4 @@
--- The set is the one that is known, or one of its counts has stopped, or it is new. Assumes nothing.
+-- The set is the one that is known, or its first count has stopped, or it is new. Assumes nothing.
 use Rattle.std.proofs.Common.{◌≡◌, ℕ, ◌+◌, ◌^◌, ◌<◌, ◌≤◌, true, slice_index, sym, ◌∙◌, subst, arith}
 use Rattle.std.specs.Prelude.{List, Option, None, Some}
 use Rattle.std.specs.Borrow.{Bor}

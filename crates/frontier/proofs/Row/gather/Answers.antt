@@ -43,16 +43,16 @@ loop-other-init c =
     (tt, tt, rw e (first_taken c.args.self.now c.args.members some.first some.others c.requires some.ensures))
 
 pub offset_bounds-self-other : goal.offset_bounds-self-other
-offset_bounds-self-other c = let low = below _ _ _ c.loop-other.invariant.2 c.in-Some-other.ensures.steps in record { fits = omega arith }
+offset_bounds-self-other c = let low = below _ _ c.loop-other.invariant.2.seeking c.in-Some-other.ensures.steps in record { fits = omega arith }
 
 pub bounds-self-other : goal.bounds-self-other
-bounds-self-other c = below _ _ _ c.loop-other.invariant.2 c.in-Some-other.ensures.steps
+bounds-self-other c = below _ _ c.loop-other.invariant.2.seeking c.in-Some-other.ensures.steps
 
 pub offset_bounds-self-other-in-loop-other : goal.offset_bounds-self-other-in-loop-other
-offset_bounds-self-other-in-loop-other c = let low = below _ _ _ c.loop-other.invariant.2 c.in-Some-other.ensures.steps in record { fits = omega arith }
+offset_bounds-self-other-in-loop-other c = let low = below _ _ c.loop-other.invariant.2.seeking c.in-Some-other.ensures.steps in record { fits = omega arith }
 
 pub bounds-self-other-in-loop-other : goal.bounds-self-other-in-loop-other
-bounds-self-other-in-loop-other c = below _ _ _ c.loop-other.invariant.2 c.in-Some-other.ensures.steps
+bounds-self-other-in-loop-other c = below _ _ c.loop-other.invariant.2.seeking c.in-Some-other.ensures.steps
 
 pub loop-other-preserved : goal.loop-other-preserved
 loop-other-preserved c =

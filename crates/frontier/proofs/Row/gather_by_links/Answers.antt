@@ -9,25 +9,25 @@ loop-u-init c =
     (tt, tt, rw e (gathering_start _ _ c.args.members c.requires.0), omega arith)
 
 pub offset_bounds-self-u : goal.offset_bounds-self-u
-offset_bounds-self-u c = let low = below _ _ _ c.loop-u.invariant.2 c.in-Some.ensures.steps in record { fits = omega arith }
+offset_bounds-self-u c = let low = below _ _ c.loop-u.invariant.2.seeking c.in-Some.ensures.steps in record { fits = omega arith }
 
 pub bounds-self-u : goal.bounds-self-u
-bounds-self-u c = below _ _ _ c.loop-u.invariant.2 c.in-Some.ensures.steps
+bounds-self-u c = below _ _ c.loop-u.invariant.2.seeking c.in-Some.ensures.steps
 
 pub offset_bounds-self-u-in-loop-u : goal.offset_bounds-self-u-in-loop-u
-offset_bounds-self-u-in-loop-u c = let low = below _ _ _ c.loop-u.invariant.2 c.in-Some.ensures.steps in record { fits = omega arith }
+offset_bounds-self-u-in-loop-u c = let low = below _ _ c.loop-u.invariant.2.seeking c.in-Some.ensures.steps in record { fits = omega arith }
 
 pub bounds-self-u-in-loop-u : goal.bounds-self-u-in-loop-u
-bounds-self-u-in-loop-u c = below _ _ _ c.loop-u.invariant.2 c.in-Some.ensures.steps
+bounds-self-u-in-loop-u c = below _ _ c.loop-u.invariant.2.seeking c.in-Some.ensures.steps
 
 pub overflow_mul-u : goal.overflow_mul-u
-overflow_mul-u c = let low = below _ _ _ c.loop-u.invariant.2 c.in-Some.ensures.steps in record { fits = omega arith }
+overflow_mul-u c = let low = below _ _ c.loop-u.invariant.2.seeking c.in-Some.ensures.steps in record { fits = omega arith }
 
 pub overflow_add-u : goal.overflow_add-u
-overflow_add-u c = let low = below _ _ _ c.loop-u.invariant.2 c.in-Some.ensures.steps in record { fits = omega (arith, c.requires.1) }
+overflow_add-u c = let low = below _ _ c.loop-u.invariant.2.seeking c.in-Some.ensures.steps in record { fits = omega (arith, c.requires.1) }
 
 pub bounds-more-u : goal.bounds-more-u
-bounds-more-u c = let low = below _ _ _ c.loop-u.invariant.2 c.in-Some.ensures.steps in omega (arith, c.requires.1)
+bounds-more-u c = let low = below _ _ c.loop-u.invariant.2.seeking c.in-Some.ensures.steps in omega (arith, c.requires.1)
 
 pub loop-u-preserved : goal.loop-u-preserved
 loop-u-preserved c =
