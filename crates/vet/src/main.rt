@@ -2,14 +2,15 @@
 // `lines` promises of every run from `Run::new` on until it is over.
 #![tactic(auto)]
 
-ghost use Rattle.std.specs.Prelude.{◌≡◌, length, take, IfSome, IfOk, OnOk};
+ghost use Rattle.std.specs.Prelude.{◌≡◌, length, take, IfSome, IfOk, OnOk, OnErr};
 ghost use Rattle.std.specs.Io.{ReadsAtMost};
 ghost use Rattle.std.specs.Io.KnownBytes.{Appends};
 ghost use Rattle.lines.specs.Lines.{output_of};
+ghost use Rattle.vet.specs.Written.{AppendsBeginning};
 
 use lines::Run;
 use std::io;
-use std::io::{Read, Write};
+use std::io::{ErrorKind, Read, Write};
 
 // Room for the longest input, and a byte more, which shows that it is too long.
 fn input_room() -> [u8; 65537]
@@ -34,21 +35,44 @@ fn read_full<R: Read>(input: &mut R, room: &mut [u8]) -> io::Result<usize>
     Ok(filled)
 }
 
-// Writes the output for an input, line by line.
+// Writes all of `bytes`. At an error a beginning of them was written, where `Write::write_all` says nothing.
+fn write_whole<W: Write>(bytes: &[u8], output: &mut W) -> io::Result<()>
+    ensures all { OnOk result (Appends (W.contents output.old) (W.contents output.new) bytes.now) }
+    ensures begun { OnErr result (AppendsBeginning (W.contents output.old) (W.contents output.new) bytes.now) }
+{
+    let mut written = 0;
+    for _ in 0..u64::MAX {
+        if written == bytes.len() {
+            return Ok(());
+        }
+        match output.write(&bytes[written..]) {
+            Ok(n) if n > 0 => written += n,
+            Ok(_) => return Err(ErrorKind::WriteZero.into()),
+            Err(e) if e.kind() == ErrorKind::Interrupted => {}
+            Err(e) => return Err(e),
+        }
+    }
+    Err(ErrorKind::TimedOut.into())
+}
+
+// Writes the output for an input, line by line; at an error a beginning of it was written.
 fn write_lines<W: Write>(input: &[u8], output: &mut W) -> io::Result<()>
-    ensures { OnOk result (Appends (W.contents output.old) (W.contents output.new) (output_of input.now)) }
+    ensures all { OnOk result (Appends (W.contents output.old) (W.contents output.new) (output_of input.now)) }
+    ensures begun { OnErr result (AppendsBeginning (W.contents output.old) (W.contents output.new) (output_of input.now)) }
 {
     let mut run = Run::new();
     let mut line = [0u8; 32];
     while let Some(len) = run.next_line(input, &mut line) {
-        output.write_all(&line[..len])?;
+        write_whole(&line[..len], output)?;
     }
     Ok(())
 }
 
-// Reads an input, and no more of it than shows that it is too long, and writes its output.
+// Reads an input, and no more of it than shows that it is too long, and writes its output. At an error a beginning of the output for
+// the whole input was written: no line stands for a pattern of which a part was not read.
 fn vet_input<R: Read, W: Write>(input: &mut R, output: &mut W) -> io::Result<()>
-    ensures { OnOk result (IfSome (R.remaining input.old) (λ xs. Appends (W.contents output.old) (W.contents output.new) (output_of xs))) }
+    ensures all { OnOk result (IfSome (R.remaining input.old) (λ xs. Appends (W.contents output.old) (W.contents output.new) (output_of xs))) }
+    ensures begun { OnErr result (IfSome (R.remaining input.old) (λ xs. AppendsBeginning (W.contents output.old) (W.contents output.new) (output_of xs))) }
 {
     let mut room = input_room();
     let n = read_full(input, &mut room)?;
