@@ -1,12 +1,13 @@
 -- Demands 2 and 3 for every accepted pattern, and that vetting can show its texts. Each statement is one sentence of a demand; its
 -- proof cites the crate that has it. In all of them b is a pattern's bytes, `pattern_refusal b ≡ 0` says that the pattern is accepted,
 -- `pattern_graph b` is its graph, and s is an answer: any list of letters, of any length. A reading r is a list of transitions, each a
--- position and the link taken to it. Assumes nothing.
+-- position and the link taken to it. First stands that the grammar's two bounds, which let its functions end, shut out no text. Assumes
+-- nothing.
 use mathlib.Core.Path.{◌≡◌}
 use mathlib.Core.Logic.{◌↔◌}
 use mathlib.Core.Bool.{true, false}
 use mathlib.Core.List.{List, ◌++◌}
-use Prim.Native.Nat.{ℕ, ◌+◌, ◌*◌, ◌^◌, ◌≤◌, ◌<◌}
+use Prim.Native.Nat.{ℕ, suc, ◌+◌, ◌*◌, ◌^◌, ◌≤◌, ◌<◌}
 use lib.IntN.{pos}
 use lib.ListN.{length, take}
 use lib.Signed.{◌≤ℤ◌}
@@ -19,8 +20,8 @@ use Rattle.graph.specs.Taken.{possible, letters_taken}
 use Rattle.graph.proofs.Counting as Counting
 use Rattle.graph.proofs.Marks as Marks
 use Rattle.graph.proofs.Taken as Taken
-use Rattle.pattern.specs.Parts.{Part, Bounds, out_of_bounds, written_out}
-use Rattle.pattern.specs.Grammar.{pattern_part}
+use Rattle.pattern.specs.Parts.{Item, Part, Bounds, out_of_bounds, written_out}
+use Rattle.pattern.specs.Grammar.{items_from, pattern_from, read_pattern, pattern_part}
 use Rattle.pattern.specs.Refusals.{pattern_refusal}
 use Rattle.pattern.specs.Positions.{positions, pattern_graph}
 use Rattle.pattern.specs.Texts.{Text, Counted}
@@ -28,12 +29,23 @@ use Rattle.pattern.proofs.Texts as Texts
 use Rattle.pattern.proofs.Intervals as Intervals
 use Rattle.pattern.proofs.Own.{some_position}
 use Rattle.pattern.proofs.Doubled.{trim}
+use Rattle.reader.proofs.Enough as Enough
 use Rattle.verdict.specs.Pairs.{both_hold, shares, letter_shown}
 use Rattle.verdict.specs.Verdict.{first_pivot, verdict}
 use Rattle.verdict.specs.Evidence.{times, ShowsSteady, ShowsRunaway}
 use Rattle.verdict.proofs.Onward as Onward
 use Rattle.verdict.proofs.Shows as Shows
 use Rattle.verdict.proofs.Bounds as Bounds
+
+-- ---- The grammar's bounds
+
+-- How deep its functions may call each other: with any greater bound every text is read the same, accepted or not;
+pub depth_is_enough : (s : List ℕ) (n : ℕ) → suc (3 * suc (length s)) ≤ n → pattern_from n s ≡ read_pattern s
+depth_is_enough s n h = Enough.deeper_reads_same n s h
+
+-- and so are the items of a class with any greater bound on how many they may be.
+pub items_are_enough : (s : List ℕ) (is : List Item) (n : ℕ) → suc (length s) ≤ n → items_from n is s ≡ items_from (suc (length s)) is s
+items_are_enough s is n h = Enough.longer_reads_same n is s h
 
 -- ---- Demand 2
 

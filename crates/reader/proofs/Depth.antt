@@ -25,7 +25,7 @@ use Rattle.pattern.proofs.Written.{written_refused, written_by}
 use Rattle.pattern.proofs.Doubled.{not_both, over_alone}
 
 -- how many repeats that go round lie within each other
-abbrev depth : Part → ℕ
+abbrev pub depth : Part → ℕ
 depth (letter a) = 0
 depth (either p q) = max (depth p) (depth q)
 depth (joined p q) = max (depth p) (depth q)
@@ -82,11 +82,11 @@ written_deep b p =
 
 -- ---- depth by bytes: what is read of a text
 
-drop_low : (k : ℕ) (s : List ℕ) → length (drop k s) ≤ length s
+pub drop_low : (k : ℕ) (s : List ℕ) → length (drop k s) ≤ length s
 drop_low k s = let e = length-drop k s in omega arith
 
 -- a byte that is not 0 is there
-peek_some : (s : List ℕ) (b : ℕ) → 1 ≤ b → eqb (peek s) b ≡ true → 1 ≤ length s
+pub peek_some : (s : List ℕ) (b : ℕ) → 1 ≤ b → eqb (peek s) b ≡ true → 1 ≤ length s
 peek_some [] b l e = absurd (let z = eqb-true 0 b e in omega arith)
 peek_some (c ∷ s) b l e = omega arith
 
@@ -158,7 +158,7 @@ letter_left b s =
 abbrev Atomic : List ℕ → Read → Type 0
 Atomic s a = a.good ≡ true → 3 * depth a.part + suc (length a.rest) ≤ length s
 
-abbrev Deep : List ℕ → Read → Type 0
+abbrev pub Deep : List ℕ → Read → Type 0
 Deep s a = a.good ≡ true → (length a.rest < length s) × (3 * depth a.part + length a.rest ≤ suc (length s))
 
 letter_atomic : (s : List ℕ) → Atomic s (read_letter s)
@@ -237,10 +237,10 @@ after : (s t : List ℕ) (a b : Read) (part : Part) → Deep s a → a.good ≡ 
     → Deep s (read part b.rest)
 after s t a b part h e l k f d g = let m = h e in let n = k f in (omega arith, omega arith)
 
-record Parts (f : ℕ) (s : List ℕ) : Type 0 where
-  pattern : Deep s (pattern_from f s)
-  branch : Deep s (branch_from f s)
-  piece : Deep s (piece_from f s)
+pub record Parts (f : ℕ) (s : List ℕ) : Type 0 where
+  pub pattern : Deep s (pattern_from f s)
+  pub branch : Deep s (branch_from f s)
+  pub piece : Deep s (piece_from f s)
 
 -- one level up, from what holds of every text
 module _ (f : ℕ) (less : (s : List ℕ) → Parts f s) (s : List ℕ) where
@@ -282,7 +282,7 @@ module _ (f : ℕ) (less : (s : List ℕ) → Parts f s) (s : List ℕ) where
       omega arith))
       (λ c e. absurd (false≢true e))) (λ e. repeated_deep s (read_letter s) (letter_atomic s))
 
-parts : (f : ℕ) (s : List ℕ) → Parts f s
+pub parts : (f : ℕ) (s : List ℕ) → Parts f s
 parts zero s = record { pattern = λ e. absurd (false≢true e); branch = λ e. absurd (false≢true e); piece = λ e. absurd (false≢true e) }
 parts (suc f) s = let less = parts f in record { pattern = pattern_deep f less s; branch = branch_deep f less s; piece = piece_deep f less s }
 
