@@ -1,14 +1,15 @@
-// The calls for C: those of `calls`, which clients in Rattle find here too, with one number for the result. No call has a
-// `requires`: each tests its input itself, and what it gives is said for all input. `marking_c` exports them.
+// The calls for C: those of `calls`, which clients in Rattle find here too, with what they give, and with one number for the result. No
+// call has a `requires`: each tests its input itself, and what it gives is said for all input. `marking_c` exports them.
 #![tactic(auto)]
 
-ghost use Rattle.std.specs.Prelude.{◌≡◌, IfOk};
+ghost use Rattle.std.specs.Prelude.{◌≡◌, ◌≢◌, IfOk};
 ghost use Rattle.marking.specs.ForC.{MarkForC, VetForC, VetAlone};
-ghost use Rattle.marking.specs.Packing.{ShortTexts, verdict_packed, vet_fields_of, vet_packed};
+ghost use Rattle.marking.specs.Packing.{ShortTexts, verdict_packed, vet_fields_of, vet_packed, vet_unpacked};
 
 pub use calls::{mark_answer, vet_pattern};
-use pattern::Refusal;
-use vetting::{Verdict, Vetted};
+pub use marks::Marked;
+pub use pattern::Refusal;
+pub use vetting::{Verdict, Vetted};
 
 // Vets a pattern. The result has the refusal in bits 0 to 7, the verdict in 8 to 15, the number of positions in 16 to 23, the
 // lengths in 24 to 35, 36 to 47 and 48 to 59.
@@ -18,9 +19,10 @@ pub fn marking_vet_in(pattern: &[u8], evidence: &mut [u8], scratch: &mut [u16]) 
     packed(calls::vet_pattern(pattern, evidence, scratch))
 }
 
-// The same with scratch of its own.
+// The same with scratch of its own, so that it never declines for want of it.
 pub fn marking_vet(pattern: &[u8], evidence: &mut [u8]) -> u64
-    ensures { VetAlone pattern.now evidence.old evidence.new result }
+    ensures says { VetAlone pattern.now evidence.old evidence.new result }
+    ensures enough_scratch { (vet_unpacked result).refusal ≢ 2 }
 {
     let mut scratch = [0u16; 4096];
     marking_vet_in(pattern, evidence, &mut scratch)

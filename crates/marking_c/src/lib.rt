@@ -1,7 +1,9 @@
 // The static library for C: each call is that of `marking` under its name there, with the same clauses.
 #![tactic(auto)]
 
+ghost use Rattle.std.specs.Prelude.{◌≢◌};
 ghost use Rattle.marking.specs.ForC.{MarkForC, VetForC, VetAlone};
+ghost use Rattle.marking.specs.Packing.{vet_unpacked};
 
 // Vets a pattern. The result has the refusal in bits 0 to 7, the verdict in 8 to 15, the number of positions in 16 to 23, the
 // lengths in 24 to 35, 36 to 47 and 48 to 59.
@@ -12,10 +14,11 @@ pub extern "C" fn marking_vet_in(pattern: &[u8], evidence: &mut [u8], scratch: &
     marking::marking_vet_in(pattern, evidence, scratch)
 }
 
-// The same with scratch of its own.
+// The same with scratch of its own, so that it never declines for want of it.
 #[unsafe(no_mangle)]
 pub extern "C" fn marking_vet(pattern: &[u8], evidence: &mut [u8]) -> u64
-    ensures { VetAlone pattern.now evidence.old evidence.new result }
+    ensures says { VetAlone pattern.now evidence.old evidence.new result }
+    ensures enough_scratch { (vet_unpacked result).refusal ≢ 2 }
 {
     marking::marking_vet(pattern, evidence)
 }
