@@ -1,13 +1,15 @@
 /*
- * A client in C: vets a pattern, shows what the verdict rests on, marks answers by the pattern, and shows where one goes wrong.
+ * A client in C: vets a pattern, shows what the verdict rests on, marks answers by the pattern, and says why one is not read: where it
+ * goes wrong, or that it ends too soon. What is refused it tells with the reason, and with the place of a byte that is no letter.
  *
  *   client PATTERN [ANSWER ..]
+ *   client --help
  *
  * The library takes ISO 8859-1, one byte a letter, and a terminal today writes UTF-8. If every argument is UTF-8, as plain ASCII is too,
  * all are converted to ISO 8859-1, and the texts that are printed are converted back; a character that ISO 8859-1 does not have is
  * told, and is bad usage. Otherwise all are taken byte for byte as ISO 8859-1, and the texts are printed so.
  *
- * Exit status: 2 for bad usage; else 1 if the pattern or an answer is refused; else 3 if the pattern is runaway; else 0.
+ * Exit status: 2 for bad usage; else 1 if the pattern or an answer is refused; else 3 if the pattern is runaway; else 0, also for --help.
  */
 #include "marking.h"
 
@@ -103,20 +105,46 @@ static const char *readings(uint64_t count) {
     return at;
 }
 
-/* The refusals that a pattern or an answer can meet here; the evidence is large enough. */
+/* The refusals that a pattern or an answer can meet here, but for a byte that is no letter; the evidence is large enough. */
 static const char *reason(enum marking_refusal refusal) {
     switch (refusal) {
     case MARKING_PATTERN_TOO_LONG: return "the pattern has more than 512 bytes";
-    case MARKING_PATTERN_NO_LETTER: return "a byte of the pattern is no letter";
-    case MARKING_PATTERN_GRAMMAR: return "the pattern does not follow the grammar";
+    case MARKING_PATTERN_GRAMMAR: return "the pattern does not follow the grammar; docs/VERDICTS.md, \"Refused\", says what to write";
     case MARKING_RANGE_REVERSED: return "a range's first letter has a higher code than its last";
     case MARKING_CLASS_EMPTY: return "a class holds no letter";
     case MARKING_INTERVAL_BOUNDS: return "an interval's upper bound is 0 or below the lower one, or a bound is above 255";
     case MARKING_TOO_MANY_POSITIONS: return "there are more than 60 positions";
     case MARKING_ANSWER_TOO_LONG: return "the answer has more than 4,096 bytes";
-    case MARKING_ANSWER_NO_LETTER: return "a byte of the answer is no letter";
     default: return "no reason is known";
     }
+}
+
+static int is_letter(uint8_t byte) { return (byte >= 32 && byte <= 126) || byte >= 160; }
+
+/* What people call the codes that most often get into a text unseen. */
+static const char *called(uint8_t code) {
+    switch (code) {
+    case 9: return " (a tab)";
+    case 10: return " (a newline)";
+    case 13: return " (a carriage return)";
+    default: return "";
+    }
+}
+
+/*
+ * Why an argument is refused. Of the bytes that are no letters it tells the first, by its place and its code. What came in UTF-8 is
+ * converted by now, so that each byte is a character.
+ */
+static void show_refusal(enum marking_refusal refusal, const char *word, const char *argument) {
+    const uint8_t *at = bytes(argument);
+    if (refusal != MARKING_PATTERN_NO_LETTER && refusal != MARKING_ANSWER_NO_LETTER) {
+        printf("refused, %u: %s\n", refusal, reason(refusal));
+        return;
+    }
+    while (is_letter(*at)) /* the zero byte at the end is none */
+        at++;
+    printf("refused, %u: character %u of the %s is no letter, its code is %u%s\n", refusal, (unsigned)(at - bytes(argument)) + 1, word,
+           (unsigned)*at, called(*at));
 }
 
 /* How many readings a text of the library's has. Its texts are short enough and have letters only, so there is no refusal. */
@@ -175,7 +203,7 @@ static struct marking_vetted vet(const char *pattern) {
     struct marking_vetted v = marking_vet_unpack(marking_vet(bytes(pattern), strlen(pattern), evidence, sizeof evidence));
     show_argument("pattern", pattern);
     if (v.refusal != MARKING_ACCEPTED) {
-        printf("refused, %u: %s\n", v.refusal, reason(v.refusal));
+        show_refusal(v.refusal, "pattern", pattern);
         return v;
     }
     const char *const verdicts[] = {"single", "steady", "runaway"};
@@ -193,22 +221,49 @@ static struct marking_vetted vet(const char *pattern) {
     return v;
 }
 
+/*
+ * Whether an answer without a reading that was taken whole ends too soon; if not, it is wrong at its last letter. Marking takes letters up
+ * to and with the first at which no position is possible any more. So one more letter behind the answer, whichever it is, is not taken if
+ * no position was possible after the answer's last. If one was, the letter is taken, and some text that begins with the answer has a
+ * reading. Before the first letter nothing is wrong: the empty answer ends too soon. The answer is shorter than MARKING_ANSWER_MAX.
+ */
+static int ends_too_soon(const char *pattern, const char *answer) {
+    uint8_t longer[MARKING_ANSWER_MAX];
+    const size_t len = strlen(answer);
+    uint64_t count;
+    memcpy(longer, answer, len);
+    longer[len] = 'a';
+    return marking_mark_unpack(marking_mark(bytes(pattern), strlen(pattern), longer, len + 1, &count)).taken > len;
+}
+
+/* Why an answer, of which so many letters were taken, is not read. */
+static void show_not_read(const char *pattern, const char *answer, size_t taken) {
+    printf("  not read: ");
+    if (taken == MARKING_ANSWER_MAX) {
+        printf("it goes wrong at its last letter or ends too soon; one more letter would tell which, but is too many to mark\n");
+    } else if (taken == strlen(answer) && ends_too_soon(pattern, answer)) {
+        printf("it ends too soon; some longer text that begins like this has a reading\n");
+    } else {
+        printf("it goes wrong at letter %u; no answer that begins like this has a reading:\n", (unsigned)taken);
+        show_marked(bytes(answer), taken, taken - 1, taken);
+    }
+}
+
 static struct marking_marked mark(const char *pattern, const char *answer) {
     uint64_t count = 0;
     struct marking_marked m =
         marking_mark_unpack(marking_mark(bytes(pattern), strlen(pattern), bytes(answer), strlen(answer), &count));
     show_argument("answer", answer);
     if (m.refusal != MARKING_ACCEPTED) {
-        printf("refused, %u: %s\n", m.refusal, reason(m.refusal));
+        show_refusal(m.refusal, "answer", answer);
         return m;
     }
-    printf("%s, mark %d\n  %s\n", readings(count), (int)m.mark,
-           count > TRIED ? "past the " TRIED_TEXT " that the marking machine tries: its mark may be lower"
-                         : "within the " TRIED_TEXT " that the marking machine tries: it finds this mark");
-    if (m.taken < strlen(answer)) {
-        printf("  it goes wrong at letter %u; no answer that begins like this has a reading:\n", (unsigned)m.taken);
-        show_marked(bytes(answer), m.taken, m.taken - 1, m.taken);
-    }
+    printf("%s, mark %d\n", readings(count), (int)m.mark);
+    if (count == 0)
+        show_not_read(pattern, answer, m.taken);
+    else
+        printf("  %s\n", count > TRIED ? "past the " TRIED_TEXT " that the marking machine tries: its mark may be lower"
+                                       : "within the " TRIED_TEXT " that the marking machine tries: it finds this mark");
     return m;
 }
 
@@ -229,10 +284,31 @@ static int convert(int argc, char **argv) {
     return 1;
 }
 
+static void show_usage(FILE *to) {
+    fputs("usage: client PATTERN [ANSWER ..]\n"
+          "       client --help\n"
+          "\n"
+          "Vets a marking pattern and shows what the verdict rests on. Marks each answer by\n"
+          "it: how many readings it has, its mark, and why it is not read if it is not.\n"
+          "docs/VERDICTS.md says how to write a pattern and what a verdict means.\n"
+          "\n"
+          "  PATTERN  512 letters at most; to read the text --help, write (--help)\n"
+          "  ANSWER   4,096 letters at most; '' is the empty answer\n"
+          "\n"
+          "All are in UTF-8, or else all are taken as ISO 8859-1. Put each in quotes:\n"
+          "\n"
+          "  client '(le|la=-1) chat=3' 'le chat' 'la chat'\n"
+          "\n"
+          "Exit status: 2 for a wrong call or a character that ISO 8859-1 does not have;\n"
+          "else 1 if something is refused; else 3 if the pattern is runaway; else 0.\n",
+          to);
+}
+
 int main(int argc, char **argv) {
-    if (argc < 2) {
-        fprintf(stderr, "usage: client PATTERN [ANSWER ..], in UTF-8 or in ISO 8859-1\n");
-        return 2;
+    const int help = argc > 1 && strcmp(argv[1], "--help") == 0;
+    if (argc < 2 || help) {
+        show_usage(help ? stdout : stderr);
+        return help ? 0 : 2;
     }
     if (!convert(argc, argv))
         return 2;
