@@ -36,13 +36,13 @@ run-latin1: $(PROGRAM)
 	$(PROGRAM) < target/paper-fr-es.txt
 
 # The texts reach the shell in the environment, so that nothing in them is expanded. An ANSWER that is given and empty is the empty
-# answer. A status that is not 0 is the client's own: make says so in a line and ends with 2.
+# answer. Where the client's status is not 0 (1 refused, 2 not converted, 3 runaway), make's own line has it after 'Error', and make
+# ends with 2.
 show: export SHOW_PATTERN := $(value PATTERN)
 show: export SHOW_ANSWER := $(value ANSWER)
 show: $(CLIENT)
 	@[ "$(origin PATTERN)" != undefined ] || { echo "usage: make show PATTERN='..' ANSWER='..'" >&2; exit 2; }
-	@$(CLIENT) "$$SHOW_PATTERN" $(if $(filter undefined,$(origin ANSWER)),,"$$SHOW_ANSWER") || \
-	  { status=$$?; echo "the client's exit status: $$status (1 refused, 2 not converted, 3 runaway)" >&2; exit $$status; }
+	@$(CLIENT) "$$SHOW_PATTERN" $(if $(filter undefined,$(origin ANSWER)),,"$$SHOW_ANSWER")
 
 test:
 	@RT="$(RT)" tests/gate
