@@ -59,6 +59,11 @@ pub if_no : {A : Type 0} (a b : A) (t : Bool) → t ≡ false → (if t then a e
 if_no a b true e = absurd (true≢false e)
 if_no a b false e = refl
 
+-- a choice between what is the same
+pub if_same : {A : Type 0} (t : Bool) {x y a b : A} → (t ≡ true → x ≡ y) → (t ≡ false → a ≡ b) → ◌≡◌ {A = A} (if t then x else a) (if t then y else b)
+if_same true f g = f refl
+if_same false f g = g refl
+
 -- what holds of both values holds of the one chosen
 pub if_either {ℓ} : {A : Type 0} (P : A → Type ℓ) (a b : A) (t : Bool) → (t ≡ true → P a) → (t ≡ false → P b) → P (if t then a else b)
 if_either P a b true y n = y refl

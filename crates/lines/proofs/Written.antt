@@ -1,4 +1,6 @@
--- For a reader: what a run puts, line after line, is the whole output, for every input (`run_is_output`, at the end). Assumes nothing.
+-- What a run has still to put: at its start the whole output (`still_first`), and less by each line that it puts (`still_next`), until
+-- nothing is left (`still_none`). So, for a reader, what a run puts, line after line, is the whole output, for every input
+-- (`run_is_output`, at the end). Assumes nothing.
 use mathlib.Core.Path.{◌≡◌, refl, sym, ap, ap₂, ◌∙◌}
 use mathlib.Core.List.{List, [], ◌++◌, append-nil}
 use mathlib.Core.Logic.{⊎_elim}

@@ -1,5 +1,5 @@
-// The calls for C: those of `calls`, which clients in Rattle find here too, with what they give, and with one number for the result. No
-// call has a `requires`: each tests its input itself, and what it gives is said for all input. `marking_c` exports them.
+// The calls with one number for the result, as C gets it, which `marking_c` exports; and for clients in Rattle the two calls of `calls`, with
+// the types of what they give. No call has a `requires`: each tests its input itself, and what it gives is said for all input.
 #![tactic(auto)]
 
 ghost use Rattle.std.specs.Prelude.{◌≡◌, ◌≢◌, IfOk};

@@ -1,23 +1,19 @@
 -- The grammar's bounds are enough: with greater ones the same is read. The idea: a call one deeper is of a text that has a byte less, or of
 -- the same text by a narrower rule, so that three calls for each byte suffice; and an item of a class takes a byte. Assumes nothing.
 use mathlib.Core.Path.{◌≡◌, refl, ap, ◌∙◌}
-use mathlib.Core.Bool.{Bool, true, false, ◌&&◌, true≢false}
+use mathlib.Core.Bool.{false, ◌&&◌, true≢false}
 use mathlib.Core.List.{List, [], ◌∷◌}
-use Prim.Native.Nat.{ℕ, zero, suc, ◌+◌, ◌-◌, ◌*◌, ◌≤◌, ◌<◌}
+use Prim.Native.Nat.{ℕ, zero, suc, ◌+◌, ◌*◌, ◌≤◌, ◌<◌}
 use Prim.Native.Char.{code}
 use native.Mathlib.Omega.{arith}
 use lib.Dec.{eqb}
 use lib.ListN.{length, drop, length-drop}
 use Rattle.std.specs.Prelude.{if◌then◌else◌}
-use Rattle.basics.proofs.Tests.{and_parts, if_either}
+use Rattle.basics.proofs.Steps.{stays}
+use Rattle.basics.proofs.Tests.{and_parts, if_same, if_either}
 use Rattle.pattern.specs.Parts.{Item, either, joined}
 use Rattle.pattern.specs.Grammar.{Read, read, broken, peek, class_letter, class_letter_long, items_from, repeated, goes_on, pattern_from, branch_from, piece_from, read_pattern}
 use Rattle.reader.proofs.Depth.{drop_low, peek_some, parts}
-
--- a choice between things that are the same
-by_either : {A : Type 0} (t : Bool) {x y a b : A} → (t ≡ true → x ≡ y) → (t ≡ false → a ≡ b) → ◌≡◌ {A = A} (if t then x else a) (if t then y else b)
-by_either true f g = f refl
-by_either false f g = g refl
 
 -- ---- the items of a class
 
@@ -33,23 +29,14 @@ items_same zero is s h = absurd (omega arith)
 items_same (suc f) is s h =
     let t = drop (class_letter_long s) s in
     let b = class_letter (drop 1 t) in
-    by_either (eqb (class_letter s) 0) (λ e. refl)
+    if_same (eqb (class_letter s) 0) (λ e. refl)
     (λ e.
     let l = letter_takes s e in
     let lu = drop_low (suc (class_letter_long (drop 1 t))) t in
-    by_either (eqb (peek t) (code "-")) (λ d. by_either (eqb b 0) (λ c. refl) (λ c. items_same f _ _ (omega arith))) (λ d. items_same f _ _ (omega arith)))
-
-items_further : (k f : ℕ) (is : List Item) (s : List ℕ) → length s < f → items_from (f + k) is s ≡ items_from f is s
-items_further zero f is s h = let e : f + 0 ≡ f = omega arith in ap (λ (d : ℕ). items_from d is s) e
-items_further (suc k) f is s h =
-    let e : f + suc k ≡ suc (f + k) = omega arith in
-    ap (λ (d : ℕ). items_from d is s) e ∙ items_same (f + k) is s (omega arith) ∙ items_further k f is s h
+    if_same (eqb (peek t) (code "-")) (λ d. if_same (eqb b 0) (λ c. refl) (λ c. items_same f _ _ (omega arith))) (λ d. items_same f _ _ (omega arith)))
 
 pub longer_reads_same : (n : ℕ) (is : List Item) (s : List ℕ) → suc (length s) ≤ n → items_from n is s ≡ items_from (suc (length s)) is s
-longer_reads_same n is s h =
-    let f = suc (length s) in
-    let e : n ≡ f + (n - f) = omega arith in
-    ap (λ (d : ℕ). items_from d is s) e ∙ items_further (n - f) f is s (omega arith)
+longer_reads_same n is s h = stays (λ (d : ℕ). items_from d is s) (suc (length s)) (λ k l. items_same k is s (omega arith)) n h
 
 -- ---- patterns, branches, pieces
 
@@ -75,7 +62,7 @@ module _ (f : ℕ) (less : (s : List ℕ) → Same f s) (s : List ℕ) where
       let a = branch_from f s in
       let t = drop 1 a.rest in
       ap (λ (c : Read). with_branches c (pattern_from (suc f) (drop 1 c.rest))) ((less s).branch (omega arith))
-      ∙ by_either (a.good && eqb (peek a.rest) (code "|"))
+      ∙ if_same (a.good && eqb (peek a.rest) (code "|"))
       (λ e.
       let shorter = ((parts f s).branch (and_parts a.good (eqb (peek a.rest) (code "|")) e).0).0 in
       let l = drop_low 1 a.rest in
@@ -85,14 +72,14 @@ module _ (f : ℕ) (less : (s : List ℕ) → Same f s) (s : List ℕ) where
   branch_same h =
       let a = piece_from f s in
       ap (λ (c : Read). with_pieces c (branch_from (suc f) c.rest)) ((less s).piece (omega arith))
-      ∙ by_either (a.good && goes_on a.rest)
+      ∙ if_same (a.good && goes_on a.rest)
       (λ e.
       let shorter = ((parts f s).piece (and_parts a.good (goes_on a.rest) e).0).0 in
       ap (λ (b : Read). if b.good then read (joined a.part b.part) b.rest else broken) ((less a.rest).branch (omega arith))) (λ e. refl)
 
   piece_same : 3 * length s + 1 ≤ suc f → piece_from (suc (suc f)) s ≡ piece_from (suc f) s
   piece_same h =
-      by_either (eqb (peek s) (code "("))
+      if_same (eqb (peek s) (code "("))
       (λ e.
       let some = peek_some s (code "(") (omega arith) e in
       let d = length-drop 1 s in
@@ -102,15 +89,5 @@ same : (f : ℕ) (s : List ℕ) → Same f s
 same zero s = record { pattern = λ h. absurd (omega arith); branch = λ h. absurd (omega arith); piece = λ h. absurd (omega arith) }
 same (suc f) s = let less = same f in record { pattern = pattern_same f less s; branch = branch_same f less s; piece = piece_same f less s }
 
--- so many levels more
-further : (k f : ℕ) (s : List ℕ) → 3 * length s + 3 ≤ f → pattern_from (f + k) s ≡ pattern_from f s
-further zero f s h = let e : f + 0 ≡ f = omega arith in ap (λ (d : ℕ). pattern_from d s) e
-further (suc k) f s h =
-    let e : f + suc k ≡ suc (f + k) = omega arith in
-    ap (λ (d : ℕ). pattern_from d s) e ∙ (same (f + k) s).pattern (omega arith) ∙ further k f s h
-
 pub deeper_reads_same : (n : ℕ) (s : List ℕ) → suc (3 * suc (length s)) ≤ n → pattern_from n s ≡ read_pattern s
-deeper_reads_same n s h =
-    let f = suc (3 * suc (length s)) in
-    let e : n ≡ f + (n - f) = omega arith in
-    ap (λ (d : ℕ). pattern_from d s) e ∙ further (n - f) f s (omega arith)
+deeper_reads_same n s h = stays (λ (d : ℕ). pattern_from d s) (suc (3 * suc (length s))) (λ k l. (same k s).pattern (omega arith)) n h

@@ -1,2 +1,2 @@
--- What the program's functions promise where a write fails.
+-- What the program's functions promise at an error.
 pub mod Written

@@ -1,4 +1,4 @@
--- What a writer holds after a write that did not end well.
+-- What a writer holds after an error.
 use Rattle.std.specs.Prelude.{◌≡◌, List, ◌++◌, ℕ, Option}
 use Rattle.std.specs.Io.KnownBytes.{Appends}
 

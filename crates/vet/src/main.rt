@@ -35,7 +35,8 @@ fn read_full<R: Read>(input: &mut R, room: &mut [u8]) -> io::Result<usize>
     Ok(filled)
 }
 
-// Writes all of `bytes`. At an error a beginning of them was written, where `Write::write_all` says nothing.
+// Writes all of `bytes`, in parts where the writer takes no more, and tries again what a signal interrupts. At an error a beginning of them
+// was written; `Write::write_all` promises nothing then. (So many turns never come: their number lets the loop end.)
 fn write_whole<W: Write>(bytes: &[u8], output: &mut W) -> io::Result<()>
     ensures all { OnOk result (Appends (W.contents output.old) (W.contents output.new) bytes.now) }
     ensures begun { OnErr result (AppendsBeginning (W.contents output.old) (W.contents output.new) bytes.now) }
