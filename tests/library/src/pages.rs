@@ -17,7 +17,7 @@ use std::fs;
 use std::path::{Path, PathBuf};
 
 /// The pages, and how many claims each makes.
-const PAGES: [(&str, u32); 4] = [("README.md", 8), ("docs/RULES.md", 411), ("docs/VERDICTS.md", 538), ("docs/C-API.md", 36)];
+const PAGES: [(&str, u32); 4] = [("README.md", 8), ("docs/RULES.md", 411), ("docs/VERDICTS.md", 546), ("docs/C-API.md", 36)];
 
 /// Tables that make no claim of this kind, by their headers.
 const WORDS: [&str; 9] = [
