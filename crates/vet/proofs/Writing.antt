@@ -19,19 +19,19 @@ use Rattle.vet.specs.Written.{AppendsBeginning}
 
 module _ (all : List ℕ) (written : ℕ) where
   -- what is handed to a write
-  abbrev pub rest : List ℕ
-  rest = take (length all - written) (drop written all)
+  abbrev pub handed : List ℕ
+  handed = take (length all - written) (drop written all)
 
-  rest_is : rest ≡ drop written all
-  rest_is = let l : length (drop written all) ≡ length all - written = length-drop written all in take_all (length all - written) (drop written all) (omega arith)
+  handed_is : handed ≡ drop written all
+  handed_is = let l : length (drop written all) ≡ length all - written = length-drop written all in take_all (length all - written) (drop written all) (omega arith)
 
   module _ (old mid new : Option (List ℕ)) (so : (written ≤ length all) × Appends old mid (take written all)) where
     -- so many more bytes were written
-    pub written_on : (n k : ℕ) → k ≡ written + n → n ≤ length rest → Appends mid new (take n rest) → (k ≤ length all) × Appends old new (take k all)
+    pub written_on : (n k : ℕ) → k ≡ written + n → n ≤ length handed → Appends mid new (take n handed) → (k ≤ length all) × Appends old new (take k all)
     written_on n k e l a =
-        let fits : n ≤ length all - written = omega (arith, ap length rest_is, length-drop written all) in
+        let fits : n ≤ length all - written = omega (arith, ap length handed_is, length-drop written all) in
         let w = so.0 in
-        let more : Appends mid new (take n (drop written all)) = subst (λ (r : List ℕ). Appends mid new (take n r)) rest_is a in
+        let more : Appends mid new (take n (drop written all)) = subst (λ (r : List ℕ). Appends mid new (take n r)) handed_is a in
         (omega arith, subst (Appends old new) (sym (ap (λ (i : ℕ). take i all) e ∙ take-add written n all)) (Appends-trans old mid new (take written all) (take n (drop written all)) so.1 more))
 
     -- none were
@@ -42,6 +42,7 @@ module _ (all : List ℕ) (written : ℕ) where
 pub begun : {all : List ℕ} {old new : Option (List ℕ)} {written : ℕ} → (written ≤ length all) × Appends old new (take written all) → AppendsBeginning old new all
 begun {all} {old} {new} {written} so = record { bytes = take written all; rest = drop written all; appended = so.1; begins = take-append-drop written all }
 
+-- what holds anyway holds at an error
 pub on_err : {T E P : Type 0} (r : Result T E) → P → OnErr r P
 on_err (Ok x) p = tt
 on_err (Err e) p = p
