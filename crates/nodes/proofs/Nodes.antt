@@ -21,7 +21,7 @@ use Rattle.nodes.specs.declared.Node.TheVariants.{Together, Parted as Two}
 use Rattle.nodes.specs.declared.Seen.{Seen}
 use Rattle.nodes.specs.declared.Steps.{Steps}
 use Rattle.nodes.specs.Nodes.{IsNode, one, two, pack, left_of, right_of, number_of, Fits, Numbered, left_side, right_side, goes, RowOf, Parts, Step, single, beside, PartnersOf}
-use Rattle.nodes.specs.Taken.{taken, Free, FoundPair, FindsPair, Fresh, new_single, new_beside, Gone, Found, Finds}
+use Rattle.nodes.specs.Taken.{taken, Even, Free, FoundPair, FindsPair, Fresh, new_single, new_beside, Gone, Found, Finds}
 use Rattle.std.proofs.lemmas.Grind.{common_steps}
 
 -- ---- the two sides of a node
@@ -150,7 +150,7 @@ pub taken_high : (seen : Seen) (x : ℕ) → 64 ≤ x → taken seen x ≡ has_b
 unfolding taken
 taken_high seen x h = if_no (has_bit seen.states x) (has_bit (get_or seen.pairs (x / 64) 0) (x % 64)) (ltb x 64) (le-ltb x 64 h)
 
-module _ (seen : Seen) where
+module _ (seen : Seen) (even : Even seen.pairs) where
   pub taken_pair : (a b : ℕ) → Places a b → taken seen (pack a b) ≡ has_bit (get_or seen.pairs a 0) b
   taken_pair = grind (arith, common_steps, by_order, pack_swap, turned, right_high, left_high, pack_more, taken_high)
 

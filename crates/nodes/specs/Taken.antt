@@ -1,5 +1,5 @@
 -- Which nodes are taken up, and the nodes one step on that are not.
-use Rattle.std.specs.Prelude.{◌≡◌, Bool, true, false, ◌||◌, not, List, ℕ, ◌/◌, ◌%◌, ◌<◌, eqb, ltb, get_or, if◌then◌else◌, Option, None, Some}
+use Rattle.std.specs.Prelude.{◌≡◌, Bool, true, false, ◌||◌, not, List, ℕ, ◌/◌, ◌%◌, ◌≤◌, ◌<◌, eqb, ltb, get_or, length, if◌then◌else◌, Option, None, Some}
 use Rattle.bits.specs.Bits.{has_bit}
 use Rattle.nodes.specs.declared.Next.{Next}
 use Rattle.nodes.specs.declared.Node.{Node}
@@ -11,13 +11,20 @@ use Rattle.nodes.specs.Nodes.{IsNode, pack, number_of, Fits, goes, Parts}
 unfoldable pub taken : Seen → ℕ → Bool
 taken seen x = if ltb x 64 then has_bit seen.states x else has_bit (get_or seen.pairs (x / 64) 0) (x % 64)
 
+-- a pair is taken up in both rows or in neither
+pub record Even (seen : List ℕ) : Type 0 where
+  pub size : length seen ≡ 61
+  pub same : (a b : ℕ) → a ≤ 60 → b ≤ 60 → has_bit (get_or seen a 0) b ≡ has_bit (get_or seen b 0) a
+
 -- x is all that is taken up
 pub record OneTaken (x : ℕ) (seen : Seen) : Type 0 where
   pub takes : (z : ℕ) → IsNode z → taken seen z ≡ eqb x z
+  pub even : Even seen.pairs
 
 -- y is taken up besides
 pub record TakenUp (seen seen' : Seen) (y : ℕ) : Type 0 where
   pub takes : (z : ℕ) → IsNode z → taken seen' z ≡ (taken seen z || eqb y z)
+  pub even : Even seen.pairs → Even seen'.pairs
 
 -- a of the set `from` and b of the set `to`, that share a letter by the rows S, are not taken up, and differ unless a is of the set `own`
 pub record Free (S : List ℕ) (seen : Seen) (from to own a b : ℕ) : Type 0 where

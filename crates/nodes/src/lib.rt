@@ -2,7 +2,7 @@
 // positions. Paths part where they come to different positions, or to one by different links.
 #![tactic(auto)]
 
-ghost use Rattle.std.specs.Prelude.{◌≡◌, true, not, ◌&&◌, ◌||◌, ℕ, ◌≤◌, ◌<◌, eqb, get_or, length};
+ghost use Rattle.std.specs.Prelude.{◌≡◌, true, not, ◌&&◌, ◌||◌, ℕ, ◌≤◌, ◌<◌, eqb};
 ghost use Rattle.bits.specs.Bits.{has_bit};
 ghost use Rattle.nodes.specs.Nodes.{Fits, number_of, left_side, right_side, Numbered, pack, RowOf, PartnersOf};
 
@@ -59,12 +59,10 @@ impl Node {
 
 // The nodes that a search has taken up: the states in a set, and a pair in both of its rows, so that row a has b and row b has a. So
 // whether a node is new is one bit, and the new partners of a position are one word.
-#[derive(Drop)]
+#[derive(Clone, Copy)]
 pub struct Seen {
-    states: u64,
-    pairs: [u64; 61],
-    ghost size: { length pairs ≡ 61 },
-    ghost even: { (a b : ℕ) → a ≤ 60 → b ≤ 60 → has_bit (get_or pairs a 0) b ≡ has_bit (get_or pairs b 0) a },
+    pub states: u64,
+    pub pairs: [u64; 61],
 }
 
 impl Seen {
@@ -81,7 +79,7 @@ impl Seen {
         }
     }
 
-    // Takes a node up besides.
+    // Takes a node up besides, whatever has been. Where each pair was in both rows or in neither, each is.
     pub fn take_up(&mut self, node: Node)
         requires { Fits node }
         ensures { TakenUp self.old self.new (number_of node) }

@@ -25,7 +25,7 @@ use Rattle.nodes.specs.declared.Node.TheVariants.{Together, Parted as Two}
 use Rattle.nodes.specs.declared.Seen.{Seen}
 use Rattle.nodes.specs.declared.Steps.{Steps}
 use Rattle.nodes.specs.Nodes.{IsNode, one, pack, number_of, Fits, Numbered, Step}
-use Rattle.nodes.specs.Taken.{taken, OneTaken, TakenUp, Fresh, Gone, Found, Finds}
+use Rattle.nodes.specs.Taken.{taken, Even, OneTaken, TakenUp, Fresh, Gone, Found, Finds}
 use Rattle.search.specs.Search.{queue, back_of, Queued, SoundQueue, SoundSearch, enqueue, mask_of, is_goal_state, is_goal, Begun, TookUp, Ended, Searching, Reached}
 use Rattle.search.proofs.Levels.{behind_none, no_nearer}
 use Rattle.nodes.proofs.Nodes.{number, node_low, node_told, numbered_fits, step_node, parts_positions, pack_node, taken_pair, fresh, spent, all_pending}
@@ -212,11 +212,11 @@ goal_parted goal {a = a} {b} fits is same e f = grind (arith, common_steps, goal
 -- ---- a search
 
 -- what is taken up besides leaves gone what was
-gone_on : (steps : Steps) {seen seen' : Seen} {y : ℕ} (pending x : ℕ) → TakenUp seen seen' y → Gone steps seen pending x → Gone steps seen' pending x
-gone_on steps {seen} {seen'} {y} pending x up g a b p n =
+gone_on : (steps : Steps) {seen seen' : Seen} {y : ℕ} (pending x : ℕ) → Even seen.pairs → TakenUp seen seen' y → Gone steps seen pending x → Gone steps seen' pending x
+gone_on steps {seen} {seen'} {y} pending x even up g a b p n =
     let h = parts_positions steps x a b p in
     let z = pack a b in
-    sym (taken_pair seen' a b h) ∙ up.takes z (pack_node a b h) ∙ or_left (taken seen z) (eqb y z) (taken_pair seen a b h ∙ g a b p n)
+    sym (taken_pair seen' (up.even even) a b h) ∙ up.takes z (pack_node a b h) ∙ or_left (taken seen z) (eqb y z) (taken_pair seen even a b h ∙ g a b p n)
 
 pub few_taken : {steps : Steps} {s : List ℕ} {w : Search} → 4096 ≤ length s → SoundSearch steps s w → w.tail ≤ 1891
 few_taken long sound = few_nodes long sound.queue
@@ -234,8 +234,9 @@ passed_on {steps} {s} {w} {w'} x sound l at none h t p same =
           (passed sound.queue l
           (λ y q. (
             step_node steps (queue s w.head) y q,
-            spent w.seen steps (queue s w.head) y (subst (λ (n : ℕ). (y : ℕ) → Fresh steps w.seen n y → ⊥) node.1 (none node.0 gone)) q,
+            spent w.seen sound.even steps (queue s w.head) y (subst (λ (n : ℕ). (y : ℕ) → Fresh steps w.seen n y → ⊥) node.1 (none node.0 gone)) q,
           )))));
+      even = subst (λ (n : Seen). Even n.pairs) (sym same) sound.even;
       gone = subst (λ (n : ℕ). Gone steps w'.seen n (queue s w'.head)) (sym p) (all_pending steps w'.seen (queue s w'.head));
     }
 
@@ -245,7 +246,7 @@ pub took : {steps : Steps} {s s' : List ℕ} {w w' : Search} (x : Node) {r : Nex
 took {steps} {s} {s'} {w} {w'} x {r} long sound l at f e up h t p =
     let y = number_of r.node in
     let is = (numbered_fits (queue s w.head) x (sound.queue.nodes w.head l) at).1 in
-    let q = fresh w.seen steps (queue s w.head) y (subst (λ (n : ℕ). Fresh steps w.seen n y) is f.fresh) in
+    let q = fresh w.seen sound.even steps (queue s w.head) y (subst (λ (n : ℕ). Fresh steps w.seen n y) is f.fresh) in
     let node = step_node steps (queue s w.head) y q.0 in
     let T' = taken w'.seen in
     let low = few_taken long sound in
@@ -257,9 +258,10 @@ took {steps} {s} {s'} {w} {w'} x {r} long sound l at f e up h t p =
         queue = subst (λ (n : ℕ). SoundQueue (Step steps) T' s' n w'.tail) (sym h)
             (subst (λ (n : ℕ). SoundQueue (Step steps) T' s' w.head n) (sym t)
             (subst (λ (x : List ℕ). SoundQueue (Step steps) T' x w.head (w.tail + 1)) (sym e) (enqueued long sound.queue T' y l q.0 node q.1 up.takes)));
+        even = up.even sound.even;
         gone = subst (λ (n : ℕ). Gone steps w'.seen n (queue s' w'.head)) (sym p)
             (subst (λ (n : ℕ). Gone steps w'.seen r.pending (queue s' n)) (sym h)
-            (subst (λ (x : ℕ). Gone steps w'.seen r.pending x) (sym (old w.head l)) (gone_on steps r.pending (queue s w.head) up gone)));
+            (subst (λ (x : ℕ). Gone steps w'.seen r.pending x) (sym (old w.head l)) (gone_on steps r.pending (queue s w.head) sound.even up gone)));
       };
       kept = old;
       last = refl;
@@ -279,6 +281,7 @@ search_begin s s' start w long low e first h t p steps = record {
     queue = subst (λ (n : ℕ). SoundQueue (Step steps) (taken w.seen) s' n w.tail) (sym h)
         (subst (λ (n : ℕ). SoundQueue (Step steps) (taken w.seen) s' 0 n) (sym t)
         (subst (λ (x : List ℕ). SoundQueue (Step steps) (taken w.seen) x 0 1) (sym e) (begun (Step steps) (taken w.seen) s start long (one {a = start} low) first.takes)));
+    even = first.even;
     gone = subst (λ (n : ℕ). Gone steps w.seen n (queue s' w.head)) (sym p) (all_pending steps w.seen (queue s' w.head));
   };
   first = ap (λ (x : List ℕ). queue x 0) e ∙ up_last s start 0 0 long (omega arith);

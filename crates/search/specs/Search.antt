@@ -11,7 +11,7 @@ use Rattle.search.specs.declared.Search.{Search}
 use Rattle.nodes.specs.declared.Node.{Node}
 use Rattle.nodes.specs.declared.Steps.{Steps}
 use Rattle.nodes.specs.Nodes.{IsNode, number_of, Fits, Step}
-use Rattle.nodes.specs.Taken.{taken, Gone}
+use Rattle.nodes.specs.Taken.{taken, Even, Gone}
 
 abbrev pub queue : List ℕ → ℕ → ℕ
 queue s i = get_or s i 0
@@ -45,9 +45,11 @@ pub record SoundQueue (E : ℕ → ℕ → Type 0) (is_taken : ℕ → Bool) (s 
   pub behind : (i : ℕ) → i < tail → back_of s i ≤ head
   pub closed : (i : ℕ) → i < head → (y : ℕ) → E (queue s i) y → (q : Queued s tail y) × (back_of s q.at ≤ i)
 
--- such a queue for the steps of t; the pairs one step on from the head are taken up but for what is pending
+-- such a queue for the steps of t; pairs are taken up in both of their rows, and those one step on from the head are taken up but for what
+-- is pending
 pub record SoundSearch (t : Steps) (s : List ℕ) (w : Search) : Type 0 where
   pub queue : SoundQueue (Step t) (taken w.seen) s w.head w.tail
+  pub even : Even w.seen.pairs
   pub gone : Gone t w.seen w.pending (get_or s w.head 0)
 
 -- the queue with y at its end, taken up from the one at `from`
