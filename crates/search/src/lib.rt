@@ -104,8 +104,8 @@ pub fn first_pivot(steps: &Steps, scratch: &mut Scratch, positions: usize) -> Op
 
 // A search under way. `head` and `tail` bound the queue of nodes taken up whose steps are still to be gone through. Of the pairs one
 // step on from the head, those whose first path is at a position outside `pending` are taken up already.
-#[derive(Drop)]
-struct Search {
+#[derive(Clone, Copy)]
+pub struct Search {
     head: usize,
     tail: usize,
     pending: u64,
