@@ -33,6 +33,11 @@ use Rattle.std.proofs.lemmas.Grind.{common_steps}
 
 -- ---- the queue after a node is taken up
 
+-- the numbers stay as many
+pub up_long : (s : List ℕ) (y h t : ℕ) → length (enqueue s y h t) ≡ length s
+unfolding enqueue
+up_long s y h t = length-set (set s t y) (2048 + t) h ∙ length-set s t y
+
 module _ (s : List ℕ) (y h t : ℕ) (long : 4096 ≤ length s) (room : t < 2048) where
   pub up_last : queue (enqueue s y h t) t ≡ y
   unfolding enqueue

@@ -67,9 +67,11 @@ impl Scratch<'_> {
 }
 
 // The search from a state to a goal: the queue number of the first that is found. No way to a goal is shorter than the one to it.
+// What is lent stays as long.
 pub fn to_goal(steps: &Steps, scratch: &mut Scratch, goal: Goal, start: usize) -> Option<usize>
     requires { start ≤ 60 }
-    ensures { Searched steps.now scratch.new.numbers.now goal start result }
+    ensures says { Searched steps.now scratch.new.numbers.now goal start result }
+    ensures kept { length scratch.new.numbers.now ≡ length scratch.old.numbers.now }
 {
     let mut search = Search::begin(&mut *scratch, start);
     if goal.is_met(Node::Together(start)) {
@@ -83,10 +85,11 @@ pub fn to_goal(steps: &Steps, scratch: &mut Scratch, goal: Goal, start: usize) -
     None
 }
 
-// The first position with two different loops back to itself over one text.
+// The first position with two different loops back to itself over one text. What is lent stays as long.
 pub fn first_pivot(steps: &Steps, scratch: &mut Scratch, positions: usize) -> Option<usize>
     requires { positions ≤ 60 }
-    ensures { (g : Graph) → Tables g steps.now → g.positions ≡ positions → IsFirstPivot g result }
+    ensures says { (g : Graph) → Tables g steps.now → g.positions ≡ positions → IsFirstPivot g result }
+    ensures kept { length scratch.new.numbers.now ≡ length scratch.old.numbers.now }
 {
     let mut first = None;
     'pivots: for q in 1..=positions {
@@ -116,7 +119,8 @@ impl Search {
     // A search that has taken up its first node.
     fn begin(scratch: &mut Scratch, start: usize) -> Search
         requires { start ≤ 60 }
-        ensures { (t : Steps) → Begun t scratch.new.numbers.now start result }
+        ensures says { (t : Steps) → Begun t scratch.new.numbers.now start result }
+        ensures kept { length scratch.new.numbers.now ≡ length scratch.old.numbers.now }
     {
         scratch.push(0, start as u16, 0);
         Search {
@@ -131,7 +135,8 @@ impl Search {
     // number. A head with none is passed.
     fn visit(&mut self, steps: &Steps, scratch: &mut Scratch) -> Option<(usize, Node)>
         requires { SoundSearch steps.now scratch.old.numbers.now self.old }
-        ensures { Visited steps.now scratch.old.numbers.now scratch.new.numbers.now self.old self.new result }
+        ensures says { Visited steps.now scratch.old.numbers.now scratch.new.numbers.now self.old self.new result }
+        ensures kept { length scratch.new.numbers.now ≡ length scratch.old.numbers.now }
     {
         while self.head < self.tail {
             let x = Node::from(scratch.numbers[self.head]);

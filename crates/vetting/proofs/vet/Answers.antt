@@ -20,7 +20,7 @@ show-requires c =
 pub runaway-verdict-requires : goal.runaway-verdict-requires
 runaway-verdict-requires c =
     let tables = tables_of c.requires.0 _ _ c.double_rows.ensures c.share_rows.ensures in
-    (c.requires.0, tables, c.in-Some.ensures (graph_of_built c.args.b c.args.more.now) tables refl, c.requires.1)
+    (c.requires.0, tables, c.in-Some.ensures.says (graph_of_built c.args.b c.args.more.now) tables refl, c.requires.1)
 
 pub returns : goal.returns
 returns c =
@@ -29,8 +29,8 @@ returns c =
     record {
       positions = refl;
       reports = elim c.match-first_pivot.branch [
-        | in-None+in-None-show w ↦ report_of w.evidence-is w.verdict-is (single_answer c.requires.0 tables (w.in-None.ensures g tables refl) w.in-None-show.ensures)
-        | in-None+in-Some-show w ↦ report_of w.evidence-is w.verdict-is (steady_answer c.requires.0 tables (w.in-None.ensures g tables refl) w.in-Some-show.ensures)
+        | in-None+in-None-show w ↦ report_of w.evidence-is w.verdict-is (single_answer c.requires.0 tables (w.in-None.ensures.says g tables refl) w.in-None-show.ensures)
+        | in-None+in-Some-show w ↦ report_of w.evidence-is w.verdict-is (steady_answer c.requires.0 tables (w.in-None.ensures.says g tables refl) w.in-Some-show.ensures)
         | in-Some w ↦ report_of w.evidence-is w.verdict-is w.runaway-verdict.ensures
       ];
     }
