@@ -11,7 +11,8 @@ use letters::LetterSet;
 use nodes::{Node, Steps};
 use search::{Goal, Scratch};
 
-// Searches, and writes the text of a shortest way to a goal at base: its length, or None where there is no goal.
+// Searches, and writes the text of a shortest way to a goal at base: its length, or None where there is no goal. What is lent to the search
+// stays as long.
 pub fn show(
     steps: &Steps,
     sets: &[LetterSet; 61],
@@ -22,7 +23,8 @@ pub fn show(
     base: usize,
 ) -> Option<usize>
     requires { (start ≤ 60) × (base + 1890 ≤ length evidence.old) × ((x y : ℕ) → Step steps.now x y → Showable sets.now y) }
-    ensures { Shown sets.now steps.now evidence.old evidence.new goal start base result }
+    ensures says { Shown sets.now steps.now evidence.old evidence.new goal start base result }
+    ensures kept { length scratch.new.numbers.now ≡ length scratch.old.numbers.now }
 {
     let i = search::to_goal(steps, &mut *scratch, goal, start)?;
     let n = steps_to(&*scratch, i);

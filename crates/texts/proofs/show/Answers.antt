@@ -10,5 +10,5 @@ trace-requires c =
     let reached = c.in_ok-i.ensures.says in
     (found_leads_back reached, n.0, found_steps reached (Showable c.args.sets.now) c.requires.2, omega (arith, n.1, found_few reached c.to_goal.new.scratch.room, c.requires.1))
 
-pub returns : goal.returns
-returns c = shown_text c.in_ok-i.ensures.says c.to_goal.new.scratch.room c.steps_to-n.ensures.0 c.steps_to-n.ensures.1 c.trace.ensures
+pub returns-clause-says : goal.returns-clause-says
+returns-clause-says c = shown_text c.in_ok-i.ensures.says c.to_goal.new.scratch.room c.steps_to-n.ensures.0 c.steps_to-n.ensures.1 c.trace.ensures

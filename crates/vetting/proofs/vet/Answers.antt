@@ -29,8 +29,8 @@ returns c =
     record {
       positions = refl;
       reports = elim c.match-first_pivot.branch [
-        | in-None+in-None-show w ↦ report_of w.evidence-is w.verdict-is (single_answer c.requires.0 tables (w.in-None.ensures.says g tables refl) w.in-None-show.ensures)
-        | in-None+in-Some-show w ↦ report_of w.evidence-is w.verdict-is (steady_answer c.requires.0 tables (w.in-None.ensures.says g tables refl) w.in-Some-show.ensures)
+        | in-None+in-None-show w ↦ report_of w.evidence-is w.verdict-is (single_answer c.requires.0 tables (w.in-None.ensures.says g tables refl) w.in-None-show.ensures.says)
+        | in-None+in-Some-show w ↦ report_of w.evidence-is w.verdict-is (steady_answer c.requires.0 tables (w.in-None.ensures.says g tables refl) w.in-Some-show.ensures.says)
         | in-Some w ↦ report_of w.evidence-is w.verdict-is w.runaway-verdict.ensures
       ];
     }
