@@ -79,7 +79,7 @@ impl Seen {
         }
     }
 
-    // Takes a node up besides, whatever has been. Where each pair was in both rows or in neither, each is.
+    // Takes a node up besides. Where each pair was in both of its rows or in neither, so it is then.
     pub fn take_up(&mut self, node: Node)
         requires { Fits node }
         ensures { TakenUp self.old self.new (number_of node) }
