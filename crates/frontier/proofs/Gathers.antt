@@ -10,9 +10,13 @@ use Rattle.bits.proofs.Laws.{member_below}
 use Rattle.bits.proofs.Walk.{sum_turn, most_turn, walk_end}
 use Rattle.frontier.specs.Rows.{count_of, most_of}
 
--- a number for which another stands as far as c
-pub cut_sum : (c n v x : ℕ) → min n c ≡ min v c → min (n + x) c ≡ min (v + x) c
-cut_sum c n v x e = omega (arith, e)
+-- a sum that is cut may have been cut before
+pub cut_sum : (c a x : ℕ) → min (a + min x c) c ≡ min (a + x) c
+cut_sum c a x = omega arith
+
+-- a number for which another stands as far as c, and each with x more
+pub cut_on : (c n v x : ℕ) → min n c ≡ min v c → min (n + x) c ≡ min (v + x) c
+cut_on c n v x e = omega (arith, e)
 
 module _ (w : ℕ → ℕ) (members : ℕ) where
   pub record Seeking (left most : ℕ) : Type 0 where
@@ -50,7 +54,7 @@ module _ (v w : ℕ → ℕ) (members : ℕ) where
     gathering_on t r count' most' s l c m = record {
       seeking = seeking_on w members left most h.seeking t r most' s m;
       room = λ i e. let past = later i e in omega (arith, h.room t s.least.here, past, l);
-      counted = cut_sum (2 ^ 63) count' (count + v t) (sum_if (has_bit r) v 61) c ∙ omega (arith, h.counted, sum_turn 61 left t r h.seeking.small s v);
+      counted = cut_on (2 ^ 63) count' (count + v t) (sum_if (has_bit r) v 61) c ∙ omega (arith, h.counted, sum_turn 61 left t r h.seeking.small s v);
     }
       where
         later : (i : ℕ) → has_bit r i ≡ true → t < i

@@ -24,7 +24,7 @@ stands_first {s} {run} e =
     record { few = omega arith; first = λ long on. a }
 
 -- there is a line to put, if there is room for it
-stands_has : {s : List ℕ} {run : Run} {room : ℕ} → Stands s run → run.from < length s → 18 ≤ room → HasLine s run room
+pub stands_has : {s : List ℕ} {run : Run} {room : ℕ} → Stands s run → run.from < length s → 18 ≤ room → HasLine s run room
 stands_has {s} {run} st on fits =
     (on, ⊎_elim (λ small. omega arith) (λ long. let a = st.first long on in omega arith) (le_or_lt (length s) 65536), fits)
 

@@ -35,6 +35,11 @@ vet_again r f = grind (arith, common_steps)
 pub vet_fields : (s e e' w w' : List ℕ) (n : ℕ) (h : VetForC s e e' w w' n) → vet_unpacked n ≡ vet_fields_of h.vetted
 vet_fields s e e' w w' n h = ap vet_unpacked h.packing ∙ vet_again (vet_fields_of h.vetted) (fits s e e' w w' h.vetted h.says)
 
+-- so what the header reads from a number are the fields of a result of which VetSays holds
+pub vet_unpacks : (s e e' w w' : List ℕ) (n : ℕ) → VetForC s e e' w w' n
+    → (r : Result Vetted Refusal) × VetSays s e e' w w' r × (vet_unpacked n ≡ vet_fields_of r)
+vet_unpacks s e e' w w' n h = (h.vetted, h.says, vet_fields s e e' w w' n h)
+
 -- ---- marking
 
 pub mark_fields : (s a : List ℕ) (old new n : ℕ) (h : MarkForC s a old new n)
