@@ -12,9 +12,8 @@ use Rattle.bits.specs.Bits.{has_bit}
 use Rattle.bits.proofs.Laws.{has_none}
 use Rattle.alphabet.specs.Alphabet.{is_letter}
 use Rattle.alphabet.specs.Flipped.{flipped, Flipped}
-use Rattle.letters.specs.LetterSet.{has_letter, set_at}
+use Rattle.letters.specs.LetterSet.{has_letter, set_at, OnlyLetters}
 use Rattle.letters.specs.declared.LetterSet.{LetterSet}
-use Rattle.letters.proofs.Sets.{is_letter_in}
 use Rattle.columns.specs.Tables.{Columns}
 
 -- is a code entered for a position: where the set is wide, a letter that it lacks
@@ -40,11 +39,11 @@ flipped_back true false true false p q = refl
 flipped_back false letter true held p q = absurd (false≢true (p refl))
 
 module _ (sets : List LetterSet) (n wide : ℕ) (table : List ℕ) (h : Columns (is_entered sets wide) n table) where
-  pub all_flipped : WideBelow n wide → (table' : List ℕ) → Flipped is_letter wide table table' → Columns (λ i c. has_letter (set_at sets i) c) n table'
-  all_flipped below table' w c j =
+  pub all_flipped : OnlyLetters sets → WideBelow n wide → (table' : List ℕ) → Flipped is_letter wide table table' → Columns (λ i c. has_letter (set_at sets i) c) n table'
+  all_flipped lettered below table' w c j =
       w.has c j ∙ ap (flipped (is_letter c && has_bit wide j)) (h c j)
       ∙ flipped_back (ltb j n) (is_letter c) (has_bit wide j) (has_letter (set_at sets j) c)
-      (λ e. ⊎_elim (λ l. absurd (false≢true (sym (below j l) ∙ e))) (λ l. lt-ltb j n l) (le_or_lt n j)) (is_letter_in (set_at sets j) c)
+      (λ e. ⊎_elim (λ l. absurd (false≢true (sym (below j l) ∙ e))) (λ l. lt-ltb j n l) (le_or_lt n j)) (lettered j c)
 
   pub none_flipped : wide ≡ 0 → Columns (λ i c. has_letter (set_at sets i) c) n table
   none_flipped z c j =

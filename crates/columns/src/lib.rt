@@ -4,7 +4,7 @@
 
 ghost use Rattle.std.specs.Prelude.{◌≡◌, true, ℕ, ◌<◌, ◌+◌, ◌^◌, length, get_or};
 ghost use Rattle.bits.specs.Bits.{has_bit};
-ghost use Rattle.letters.specs.LetterSet.{has_letter, set_at};
+ghost use Rattle.letters.specs.LetterSet.{has_letter, set_at, OnlyLetters};
 ghost use Rattle.columns.specs.Tables.{Columns, Entered};
 
 use bits::NumberSet;
@@ -25,6 +25,7 @@ pub fn states_before(b: &Built) -> [u64; 61]
 // For each letter the positions that hold it, and for any other code none. A position with a wide set is entered for the letters that it
 // lacks, and in the end such positions are flipped in the entry of each letter.
 pub fn holders_of(b: &Built) -> [u64; 256]
+    requires { OnlyLetters b.now.letters }
     ensures { Columns (λ i c. has_letter (set_at b.now.letters i) c) (b.now.positions + 1) result }
 {
     let mut table = [0u64; 256];

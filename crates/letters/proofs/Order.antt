@@ -13,14 +13,13 @@ use Rattle.basics.proofs.Tests.{and_parts, and_of, same_test, by_test, if_yes, i
 use Rattle.bits.specs.Bits.{has_bit}
 use Rattle.alphabet.specs.Alphabet.{is_letter, some_from, some_letter, lowest_letter}
 use Rattle.alphabet.proofs.Alphabet.{in_first, lowest_letter_is, lowest_none, letter_below, letter_some}
-use Rattle.letters.specs.Slots.{has_slot, slot_of}
-use Rattle.letters.specs.LetterSet.{in_slot, has_letter, LeastLetter}
+use Rattle.letters.specs.LetterSet.{has_slot, slot_of, in_slot, has_letter, LeastLetter}
 use native.Mathlib.Numerals.{add-one}
 use lib.ListN.{get_or, drop}
 use lib.Seq.{drop-cons}
 use Rattle.letters.specs.declared.LetterSet.{LetterSet}
 use Rattle.letters.specs.Order.{Range, in_range, small, capital, digit, order, place_by, place, among, first_by, first_letter}
-use Rattle.letters.proofs.Sets.{is_letter_in, some_same, lowest_same}
+use Rattle.letters.proofs.Sets.{is_letter_in, only_letters, some_same, lowest_same}
 
 -- ---- the first letter
 
@@ -76,17 +75,20 @@ pub first_least : (f : ℕ → Bool) (c : ℕ) → is_letter c ≡ true → f c 
 unfolding first_letter
 first_least f c i k = first_place order f (letter_some f c i k) c i k
 
--- ---- a range asked of a set s: g is the set of the range, and both has the letters of s in it
+-- ---- a range asked of a set s that holds letters only: g is the set of the range, and both has the letters of s in it
 
-module _ (s g both : LetterSet) (meet : (c : ℕ) → has_letter both c ≡ (has_letter s c && has_letter g c))
+module _ (s g both : LetterSet) (letters : (c : ℕ) → has_letter s c ≡ true → is_letter c ≡ true) (meet : (c : ℕ) → has_letter both c ≡ (has_letter s c && has_letter g c))
     (r : Range) (rs : List Range) (range : (c : ℕ) → has_letter g c ≡ in_range r c) where
-  same : (c : ℕ) → has_letter both c ≡ among r (has_letter s) c
-  same c = meet c ∙ ap (λ (x : Bool). has_letter s c && x) (range c)
+  same : (c : ℕ) → has_letter both c ≡ (is_letter c && among r (has_letter s) c)
+  same c =
+      meet c ∙ ap (λ (x : Bool). has_letter s c && x) (range c)
+      ∙ only_letters (among r (has_letter s)) (λ d h. letters d (and_parts (has_letter s d) (in_range r d) h).0) c
 
   -- there are some, and the lowest of them is the first letter
   pub found : (c : ℕ) → LeastLetter both c → c ≡ first_by (r ∷ rs) (has_letter s)
   found c l =
-      let some = letter_some (among r (has_letter s)) c (is_letter_in both c l.here) (sym (same c) ∙ l.here) in
+      let p = and_parts (is_letter c) (among r (has_letter s) c) (sym (same c) ∙ l.here) in
+      let some = letter_some (among r (has_letter s)) c p.0 p.1 in
       lowest_same both (among r (has_letter s)) same c l
       ∙ sym (if_yes (lowest_letter (among r (has_letter s))) (first_by rs (has_letter s)) (some_letter (among r (has_letter s))) some)
 
@@ -107,9 +109,9 @@ same_of true false e = absurd (true≢false e)
 same_of false true e = absurd (true≢false e)
 same_of false false e = refl
 
-module _ (r : Range) (s : LetterSet) (first : 32 ≤ r.from) (last : r.to ≤ 126) (tried : some_letter (λ c. differ (has_letter s c) (in_range r c)) ≡ false) where
+module _ (r : Range) (s : LetterSet) (lacks : has_bit s.middle 31 ≡ false) (first : 32 ≤ r.from) (last : r.to ≤ 126) (tried : some_letter (λ c. differ (has_letter s c) (in_range r c)) ≡ false) where
   range_set : (c : ℕ) → has_letter s c ≡ in_range r c
-  range_set c = same_test (has_letter s c) (in_range r c) (λ h. sym (same (is_letter_in s c h)) ∙ h) (λ h. same (letter h) ∙ h)
+  range_set c = same_test (has_letter s c) (in_range r c) (λ h. sym (same (is_letter_in s lacks c h)) ∙ h) (λ h. same (letter h) ∙ h)
     where
       same : is_letter c ≡ true → has_letter s c ≡ in_range r c
       same i =
@@ -124,33 +126,32 @@ module _ (r : Range) (s : LetterSet) (first : 32 ≤ r.from) (last : r.to ≤ 12
           in_first 32 126 160 255 c (omega arith) (omega arith)
 
 -- the three ranges: 26 slots from 65 on, 26 from 33 on, and 10 from 16 on
-module _ (x : has_bit (2 ^ 27 - 2) 31 ≡ false) (y z : has_bit 0 31 ≡ false) where
-  abbrev small_set : LetterSet
-  small_set = record { low = 0; middle = 2 ^ 27 - 2; high = 0; letters = x }
+abbrev small_set : LetterSet
+small_set = record { low = 0; middle = 2 ^ 27 - 2; high = 0 }
 
-  abbrev capital_set : LetterSet
-  capital_set = record { low = 2 ^ 59 - 2 ^ 33; middle = 0; high = 0; letters = y }
+abbrev capital_set : LetterSet
+capital_set = record { low = 2 ^ 59 - 2 ^ 33; middle = 0; high = 0 }
 
-  abbrev digit_set : LetterSet
-  digit_set = record { low = 2 ^ 26 - 2 ^ 16; middle = 0; high = 0; letters = z }
+abbrev digit_set : LetterSet
+digit_set = record { low = 2 ^ 26 - 2 ^ 16; middle = 0; high = 0 }
 
-  range_small : (c : ℕ) → has_letter small_set c ≡ in_range small c
-  unfolding some_from has_letter in_slot has_slot slot_of has_bit
-  range_small = range_set small small_set (omega arith) (omega arith) refl
+range_small : (c : ℕ) → has_letter small_set c ≡ in_range small c
+unfolding some_from has_letter in_slot has_slot slot_of has_bit
+range_small = range_set small small_set refl (omega arith) (omega arith) refl
 
-  range_capital : (c : ℕ) → has_letter capital_set c ≡ in_range capital c
-  unfolding some_from has_letter in_slot has_slot slot_of has_bit
-  range_capital = range_set capital capital_set (omega arith) (omega arith) refl
+range_capital : (c : ℕ) → has_letter capital_set c ≡ in_range capital c
+unfolding some_from has_letter in_slot has_slot slot_of has_bit
+range_capital = range_set capital capital_set refl (omega arith) (omega arith) refl
 
-  range_digit : (c : ℕ) → has_letter digit_set c ≡ in_range digit c
-  unfolding some_from has_letter in_slot has_slot slot_of has_bit
-  range_digit = range_set digit digit_set (omega arith) (omega arith) refl
+range_digit : (c : ℕ) → has_letter digit_set c ≡ in_range digit c
+unfolding some_from has_letter in_slot has_slot slot_of has_bit
+range_digit = range_set digit digit_set refl (omega arith) (omega arith) refl
 
-  pub range_at : (i : ℕ) (none : LetterSet) → i < 3 → (c : ℕ) → has_letter (get_or (small_set ∷ (capital_set ∷ (digit_set ∷ []))) i none) c ≡ in_range (get_or order i small) c
-  range_at zero none h = range_small
-  range_at (suc zero) none h = range_capital
-  range_at (suc (suc zero)) none h = range_digit
-  range_at (suc (suc (suc i))) none h = absurd (omega arith)
+pub range_at : (i : ℕ) (none : LetterSet) → i < 3 → (c : ℕ) → has_letter (get_or (small_set ∷ (capital_set ∷ (digit_set ∷ []))) i none) c ≡ in_range (get_or order i small) c
+range_at zero none h = range_small
+range_at (suc zero) none h = range_capital
+range_at (suc (suc zero)) none h = range_digit
+range_at (suc (suc (suc i))) none h = absurd (omega arith)
 
 -- a range and those after it
 pub range_and_rest : (i : ℕ) → i < 3 → drop i order ≡ get_or order i small ∷ drop (i + 1) order

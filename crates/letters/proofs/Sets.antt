@@ -3,26 +3,23 @@
 use mathlib.Core.Path.{◌≡◌, refl, sym, ap, ap₂, ◌∙◌, subst}
 use mathlib.Core.Logic.{⊎_elim}
 use mathlib.Core.Bool.{Bool, true, false, not, ◌&&◌, and-true, and-false, true≢false}
-use mathlib.Core.List.{List}
 use Prim.Native.Nat.{ℕ, ◌+◌, ◌-◌, ◌^◌, ◌≤◌, ◌<◌}
 use native.Mathlib.Omega.{arith}
 use borrow.Author.Tests.{lt-ltb, le-ltb, ne_eqb}
 use lib.Dec.{eqb, ltb}
 use lib.Bits.{bit_and}
 use lib.Count.{count_trailing_zeros}
-use lib.ListN.{length, get_or, replicate}
-use Rattle.std.proofs.lemmas.List.{get_or_read}
+use lib.ListN.{replicate}
 use Rattle.basics.specs.Folds.{Less, LeastOf}
-use Rattle.basics.proofs.Tests.{le_or_lt, neither_less, and_parts, by_test, by_equal, equal_added}
+use Rattle.basics.proofs.Tests.{le_or_lt, neither_less, and_parts, and_of, same_test, by_test, by_equal, equal_added}
 use Rattle.basics.proofs.Lists.{alike}
 use Rattle.bits.specs.Bits.{has_bit, Least}
 use Rattle.bits.proofs.Laws.{has_none, has_pow, has_and, has_not, has_high, least_trailing}
 use Rattle.alphabet.specs.Alphabet.{is_letter, some_letter, lowest_letter}
-use Rattle.letters.specs.Slots.{has_slot, slot_of, code_at}
-use Rattle.letters.specs.LetterSet.{in_slot, has_letter, Some, LeastLetter, no_letters, set_at}
+use Rattle.letters.specs.LetterSet.{has_slot, slot_of, code_at, in_slot, has_letter, Some, LeastLetter, set_at}
 use Rattle.letters.specs.declared.LetterSet.{LetterSet}
 use Rattle.alphabet.proofs.Alphabet.{lowest_letter_is, lowest_none, letter_some}
-use Rattle.letters.proofs.Slots.{slot_code, by_slots, code_less, code_equal, letter_slot, letter_at}
+use Rattle.letters.proofs.Slots.{by_half, slot_code, by_slots, code_less, code_equal, letter_slot, letter_at}
 
 -- ---- the three words
 
@@ -79,6 +76,25 @@ pub is_in_its_slot : (s : LetterSet) (c : ℕ) → has_slot c ≡ true → has_l
 unfolding has_letter
 is_in_its_slot s c h = ap (λ (t : Bool). t && in_slot s (slot_of c)) h
 
+-- a code in a set is one of a byte
+pub code_below : (s : LetterSet) (c : ℕ) → has_letter s c ≡ true → c < 256
+unfolding has_letter
+code_below s c h = by_half (c < 256) c (and_parts (has_slot c) (in_slot s (slot_of c)) h).0 (λ a b e. omega arith) (λ a b e. b)
+
+-- a set whose slots are those of the codes that pass f
+pub by_codes : (r : LetterSet) (f : ℕ → Bool) → ((i : ℕ) → i < 192 → in_slot r i ≡ f (code_at i)) → (c : ℕ) → has_letter r c ≡ (has_slot c && f c)
+by_codes r f e =
+    by_slots (λ (c : ℕ). has_letter r c ≡ (has_slot c && f c)) (λ c h. not_in r c h ∙ sym (ap (λ (t : Bool). t && f c) h))
+    (λ i l. code_in r i l ∙ e i l ∙ sym (ap (λ (t : Bool). t && f (code_at i)) (slot_code i l).0))
+
+-- and a set by its three words
+pub by_words : (r : LetterSet) (f : ℕ → Bool) → ((i : ℕ) → i < 64 → has_bit r.low i ≡ f (code_at (0 + i))) → ((i : ℕ) → i < 64 → has_bit r.middle i ≡ f (code_at (64 + i)))
+    → ((i : ℕ) → i < 64 → has_bit r.high i ≡ f (code_at (128 + i))) → (c : ℕ) → has_letter r c ≡ (has_slot c && f c)
+by_words r f a b d =
+    by_codes r f
+    (by_place 64 (λ (i : ℕ). i < 192 → in_slot r i ≡ f (code_at i)) (λ i h l. at_low r i h ∙ a i h ∙ ap (λ (j : ℕ). f (code_at j)) (omega arith))
+    (λ i h l. at_middle r i h ∙ b i h) (λ i l. at_high r i ∙ d i (omega arith)))
+
 -- an operation that works bit by bit on the three words works code by code
 pub pointwise : (op : Bool → Bool → Bool) (r s t : LetterSet) → op false false ≡ false
     → ((j : ℕ) → has_bit r.low j ≡ op (has_bit s.low j) (has_bit t.low j))
@@ -105,11 +121,11 @@ in_middle s i h = code_in s (64 + i) (omega arith) ∙ at_middle s i h
 pub in_high : (s : LetterSet) (i : ℕ) → i < 64 → has_letter s (code_at (128 + i)) ≡ has_bit s.high i
 in_high s i h = code_in s (128 + i) (omega arith) ∙ at_high s i
 
--- 127 is in no set, so a set has the letters that pass f where its other slots are those of codes that do
-pub by_letters : (r : LetterSet) (f : ℕ → Bool) → ((i : ℕ) → i < 64 → has_bit r.low i ≡ f (code_at (0 + i)))
+-- a set without 127 has the letters that pass f where its other slots are those of codes that do
+pub by_letters : (r : LetterSet) → has_bit r.middle 31 ≡ false → (f : ℕ → Bool) → ((i : ℕ) → i < 64 → has_bit r.low i ≡ f (code_at (0 + i)))
     → ((i : ℕ) → i < 64 → (31 ≡ i → ⊥) → has_bit r.middle i ≡ f (code_at (64 + i)))
     → ((i : ℕ) → i < 64 → has_bit r.high i ≡ f (code_at (128 + i))) → (c : ℕ) → has_letter r c ≡ (is_letter c && f c)
-by_letters r f a b d =
+by_letters r lacks f a b d =
     by_slots (λ (c : ℕ). has_letter r c ≡ (is_letter c && f c))
     (λ c h. not_in r c h ∙ sym (ap (λ t. t && f c) (by_test (is_letter c) (λ e. absurd (true≢false (sym (letter_slot c e) ∙ h))) (λ e. e))))
     (λ i l. code_in r i l ∙ slots i l ∙ sym (ap (λ t. t && f (code_at i)) (letter_at i l)))
@@ -123,16 +139,15 @@ by_letters r f a b d =
         (λ i h l. at_low r i h ∙ a i h ∙ ap (λ (j : ℕ). f (code_at j)) (omega arith) ∙ letter i (λ e. omega arith))
         (λ i h l.
         at_middle r i h
-        ∙ by_equal 31 i (λ e. subst (λ (j : ℕ). has_bit r.middle j ≡ (not (eqb 95 (64 + j)) && f (code_at (64 + j)))) e r.letters)
+        ∙ by_equal 31 i (λ e. subst (λ (j : ℕ). has_bit r.middle j ≡ (not (eqb 95 (64 + j)) && f (code_at (64 + j)))) e lacks)
         (λ e. b i h e ∙ letter (64 + i) (λ z. e (omega arith))))
         (λ i l. at_high r i ∙ d i (omega arith) ∙ letter (128 + i) (λ e. omega arith))
 
--- a set has letters only
-pub only_letters : (s : LetterSet) (c : ℕ) → has_letter s c ≡ (is_letter c && has_letter s c)
-only_letters s = by_letters s (has_letter s) (λ i h. sym (in_low s i h)) (λ i h e. sym (in_middle s i h)) (λ i h. sym (in_high s i h))
-
-pub is_letter_in : (s : LetterSet) (c : ℕ) → has_letter s c ≡ true → is_letter c ≡ true
-is_letter_in s c h = (and_parts (is_letter c) (has_letter s c) (sym (only_letters s c) ∙ h)).0
+-- such a set has letters only
+pub is_letter_in : (s : LetterSet) → has_bit s.middle 31 ≡ false → (c : ℕ) → has_letter s c ≡ true → is_letter c ≡ true
+is_letter_in s lacks c h =
+    let same = by_letters s lacks (has_letter s) (λ i k. sym (in_low s i k)) (λ i k e. sym (in_middle s i k)) (λ i k. sym (in_high s i k)) c in
+    (and_parts (is_letter c) (has_letter s c) (sym same ∙ h)).0
 
 -- ---- the middle word without 127
 
@@ -156,8 +171,8 @@ cut_has m i h e = has_and m (2 ^ 64 - 1 - 2 ^ 31) i ∙ ap (λ t. has_bit m i &&
 -- three empty words are the empty set
 pub zero_none : (s : LetterSet) → s.low ≡ 0 → s.middle ≡ 0 → s.high ≡ 0 → (c : ℕ) → has_letter s c ≡ false
 zero_none s a b d c =
-    by_letters s (λ k. false) (λ i h. ap (λ (x : ℕ). has_bit x i) a ∙ has_none i) (λ i h e. ap (λ (x : ℕ). has_bit x i) b ∙ has_none i)
-    (λ i h. ap (λ (x : ℕ). has_bit x i) d ∙ has_none i) c ∙ and-false (is_letter c)
+    by_words s (λ k. false) (λ i h. ap (λ (x : ℕ). has_bit x i) a ∙ has_none i) (λ i h. ap (λ (x : ℕ). has_bit x i) b ∙ has_none i)
+    (λ i h. ap (λ (x : ℕ). has_bit x i) d ∙ has_none i) c ∙ and-false (has_slot c)
 
 -- ---- the word with the lowest letter
 
@@ -231,18 +246,18 @@ module _ (s : LetterSet) (base m : ℕ) (w : Word s base m) where
       (λ i p.
       code_in r i p ∙ slots i ∙ sym (ap₂ (λ (a b : Bool). a && not b) (code_in s i p) (code_equal (base + u) i (omega (arith, w.room, k.0)) p))))
 
--- what a word lacks its rest lacks too
-pub rest_lacks : (m n : ℕ) → m < 2 ^ 64 → 0 < m → ((u : ℕ) → Least m u → Less (has_bit m) u (has_bit n)) → (i : ℕ) → has_bit m i ≡ false → has_bit n i ≡ false
-rest_lacks m n f p e i h = let u = count_trailing_zeros 64 m in e u (least_trailing 64 m p f).1 i ∙ ap (λ b. b && not (eqb u i)) h
+-- ---- a set that holds the letters that pass f, against what the specification says of f
 
--- ---- a set that has what passes f, against what the specification says of f
+-- a test that only letters pass
+pub only_letters : (f : ℕ → Bool) → ((c : ℕ) → f c ≡ true → is_letter c ≡ true) → (c : ℕ) → f c ≡ (is_letter c && f c)
+only_letters f letters c = same_test (f c) (is_letter c && f c) (λ h. and_of (is_letter c) (f c) (letters c h) h) (λ h. (and_parts (is_letter c) (f c) h).1)
 
-module _ (s : LetterSet) (f : ℕ → Bool) (same : (c : ℕ) → has_letter s c ≡ f c) where
+module _ (s : LetterSet) (f : ℕ → Bool) (same : (c : ℕ) → has_letter s c ≡ (is_letter c && f c)) where
   held : (c : ℕ) → has_letter s c ≡ true → (is_letter c ≡ true) × (f c ≡ true)
-  held c h = (is_letter_in s c h, sym (same c) ∙ h)
+  held c h = and_parts (is_letter c) (f c) (sym (same c) ∙ h)
 
   lowest_in : some_letter f ≡ true → has_letter s (lowest_letter f) ≡ true
-  lowest_in h = same (lowest_letter f) ∙ (lowest_letter_is f h).1
+  lowest_in h = let q = lowest_letter_is f h in same (lowest_letter f) ∙ and_of (is_letter (lowest_letter f)) (f (lowest_letter f)) q.0 q.1
 
   pub some_same : some_letter f ≡ true → Some s
   some_same h = record { code = lowest_letter f; here = lowest_in h }
@@ -259,13 +274,7 @@ module _ (s : LetterSet) (f : ℕ → Bool) (same : (c : ℕ) → has_letter s c
   none_same true empty some = by_test (some_letter f) (λ e. absurd (true≢false (sym (lowest_in e) ∙ empty refl (lowest_letter f)))) (λ e. ap not (sym e))
   none_same false empty some = let e = some refl in let p = held e.code e.here in ap not (sym (letter_some f e.code p.0 p.1))
 
--- ---- arrays of sets
-
--- the set read at i is that of entry i
-pub read_set : (sets : List LetterSet) (i : ℕ) (s : LetterSet) → i < length sets → s ≡ get_or sets i s → s ≡ set_at sets i
-read_set sets i s l is = get_or_read sets i s l is no_letters
-
 -- an array of empty sets has no letter
 pub all_empty : (n : ℕ) (none : LetterSet) → ((c : ℕ) → has_letter none c ≡ false) → (i c : ℕ) → has_letter (set_at (replicate n none) i) c ≡ false
 all_empty n none empty i c =
-    alike (λ (s : LetterSet). has_letter s c ≡ false) n none no_letters (empty c) (zero_none no_letters refl refl refl c) i
+    alike (λ (s : LetterSet). has_letter s c ≡ false) n none record { low = 0; middle = 0; high = 0 } (empty c) (zero_none record { low = 0; middle = 0; high = 0 } refl refl refl c) i

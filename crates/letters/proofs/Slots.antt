@@ -1,15 +1,15 @@
 -- Codes and slots. The codes that have a slot are, in rising order, those of the slots 0 to 191. Assumes nothing.
 use mathlib.Core.Path.{◌≡◌, sym, ap, ◌∙◌, subst}
 use mathlib.Core.Logic.{⊎_elim}
-use mathlib.Core.Bool.{true, false, not}
+use mathlib.Core.Bool.{Bool, true, false, not, ◌&&◌}
 use Prim.Native.Nat.{ℕ, ◌+◌, ◌-◌, ◌≤◌, ◌<◌}
 use native.Mathlib.Omega.{arith}
 use lib.Dec.{eqb, ltb}
 use borrow.Author.Tests.{eqb-true, eqb-false, lt-ltb, le-ltb, ne_eqb, eq-eqb, not-true}
-use Rattle.basics.proofs.Tests.{le_or_lt, same_test, by_test, if_yes, if_no}
+use Rattle.basics.proofs.Tests.{le_or_lt, and_when, same_test, by_test, if_yes, if_no}
 use Rattle.alphabet.specs.Alphabet.{is_letter}
 use Rattle.alphabet.proofs.Alphabet.{in_first, in_second, by_ranges}
-use Rattle.letters.specs.Slots.{has_slot, slot_of, code_at}
+use Rattle.letters.specs.LetterSet.{has_slot, slot_of, code_at}
 
 -- ---- the two halves
 
@@ -85,6 +85,9 @@ code_equal i j l m =
 
 pub letter_slot : (c : ℕ) → is_letter c ≡ true → has_slot c ≡ true
 letter_slot c h = by_ranges (has_slot c ≡ true) 32 126 160 255 c h (λ a b. has_low c a (omega arith)) (λ a b. has_high c a (omega arith))
+
+pub letter_has : (c : ℕ) (t : Bool) → (is_letter c && (has_slot c && t)) ≡ (is_letter c && t)
+letter_has c t = and_when (is_letter c) (has_slot c && t) t (λ h. ap (λ (u : Bool). u && t) (letter_slot c h))
 
 pub letter_at : (i : ℕ) → i < 192 → is_letter (code_at i) ≡ not (eqb 95 i)
 letter_at i l = same_test (is_letter (code_at i)) (not (eqb 95 i)) (λ t. ap not (ne_eqb 95 i (λ e. other e t))) (λ t. letter (eqb-false 95 i (not-true (eqb 95 i) t)))

@@ -1,9 +1,20 @@
 -- A set of letters as the program holds it: what the contracts cite.
-use Rattle.std.specs.Prelude.{◌≡◌, Bool, true, false, ◌&&◌, List, ℕ, ◌+◌, ◌-◌, ◌^◌, eqb, ltb, get_or, refl, if◌then◌else◌}
+use Rattle.std.specs.Prelude.{◌≡◌, Bool, true, ◌&&◌, ◌||◌, List, ℕ, ◌+◌, ◌-◌, ◌^◌, eqb, ltb, leb, get_or, if◌then◌else◌}
 use Rattle.basics.specs.Folds.{LeastOf}
 use Rattle.bits.specs.Bits.{has_bit}
-use Rattle.letters.specs.Slots.{has_slot, slot_of}
+use Rattle.alphabet.specs.Alphabet.{is_letter}
 use Rattle.letters.specs.declared.LetterSet.{LetterSet}
+
+-- has the code c a slot in a set, and which: 32 to 127 have 0 to 95, and 160 to 255 have 96 to 191
+unfoldable pub has_slot : ℕ → Bool
+has_slot c = (leb 32 c && leb c 127) || (leb 160 c && leb c 255)
+
+unfoldable pub slot_of : ℕ → ℕ
+slot_of c = if ltb c 128 then c - 32 else c - 64
+
+-- the code of slot i
+unfoldable pub code_at : ℕ → ℕ
+code_at i = if ltb i 96 then 32 + i else 64 + i
 
 -- is the code of slot i in the set s
 unfoldable pub in_slot : LetterSet → ℕ → Bool
@@ -30,14 +41,10 @@ is_wide s = eqb s.high (2 ^ 64 - 1)
 abbrev pub weight : LetterSet → ℕ
 weight s = s.low + s.middle + s.high
 
--- the set with no letters
-pub none_in : has_bit 0 31 ≡ false
-unfolding has_bit
-none_in = refl
-
-abbrev pub no_letters : LetterSet
-no_letters = record { low = 0; middle = 0; high = 0; letters = none_in }
-
 -- the set of entry i of an array of sets, empty past the last
 abbrev pub set_at : List LetterSet → ℕ → LetterSet
-set_at sets i = get_or sets i no_letters
+set_at sets i = get_or sets i record { low = 0; middle = 0; high = 0 }
+
+-- the sets of an array hold letters only
+abbrev pub OnlyLetters : List LetterSet → Type 0
+OnlyLetters sets = (i c : ℕ) → has_letter (set_at sets i) c ≡ true → is_letter c ≡ true

@@ -1,4 +1,3 @@
--- Sets of letters, their slots, and the order in which letters are shown.
-pub mod Slots
+-- Sets of letters, and the order in which letters are shown.
 pub mod LetterSet
 pub mod Order

@@ -4,22 +4,20 @@
 
 ghost use Rattle.std.specs.Prelude.{◌≡◌, true, false, not, ◌&&◌, ◌||◌, ℕ, ◌<◌};
 ghost use Rattle.basics.specs.Folds.{Less};
-ghost use Rattle.bits.specs.Bits.{has_bit};
 ghost use Rattle.alphabet.specs.Alphabet.{is_letter};
-ghost use Rattle.letters.specs.Slots.{has_slot, slot_of, code_at};
+ghost use Rattle.letters.specs.LetterSet.{in_slot, has_slot, slot_of, code_at, has_letter, Some, LeastLetter, is_wide, weight};
 ghost use Rattle.letters.specs.Order.{first_letter};
 
 use bits::NumberSet;
 
 // A set has 192 slots, a bit each: 0 to 63 are those of `low`, then come those of `middle` and of `high`. The codes 32 to 127 have the
-// slots 0 to 95, and 160 to 255 have 96 to 191. All of these are letters but 127, slot 95, bit 31 of `middle`, which is in no set.
-// Besides this crate only `ranges` uses the three fields.
+// slots 0 to 95, and 160 to 255 have 96 to 191. All of these are letters but 127, slot 95, bit 31 of `middle`: no set has it but one
+// that is written so by its fields, or made of such a one. Besides this crate only `ranges` uses the three fields.
 #[derive(Clone, Copy)]
 pub struct LetterSet {
     pub low: u64,
     pub middle: u64,
     pub high: u64,
-    ghost letters: { has_bit middle 31 ≡ false },
 }
 
 // All slots of a mask, and all of `middle` but that of 127.
@@ -54,8 +52,6 @@ const DIGITS: LetterSet = LetterSet {
 };
 
 impl LetterSet {
-    ghost use Rattle.letters.specs.LetterSet.{in_slot, has_letter, Some, LeastLetter, is_wide, weight};
-
     // The empty set.
     pub fn empty() -> LetterSet
         ensures { (c : ℕ) → has_letter result c ≡ false }
@@ -184,10 +180,10 @@ impl LetterSet {
         others
     }
 
-    // The letter shown of a set that is not empty: the first in the order a to z, A to Z, 0 to 9, then the
+    // The letter shown of a set that is not empty and holds letters only: the first in the order a to z, A to Z, 0 to 9, then the
     // others by code. Where the set has nothing of the three ranges, its lowest letter is one of the others.
     pub fn first_in_order(self) -> u8
-        requires { Some self }
+        requires { Some self × ((c : ℕ) → has_letter self c ≡ true → is_letter c ≡ true) }
         ensures { result ≡ first_letter (has_letter self) }
     {
         for range in [SMALL, CAPITAL, DIGITS] {
@@ -201,8 +197,6 @@ impl LetterSet {
 }
 
 impl NumberSet for LetterSet {
-    ghost use Rattle.letters.specs.LetterSet.{has_letter, weight};
-
     ghost has = { has_letter };
 
     ghost weight = { weight };

@@ -4,8 +4,7 @@
 ghost use Rattle.std.specs.Prelude.{◌≡◌, ◌&&◌, ℕ, ◌<◌, ◌≤◌, ◌+◌, eqb, ltb, leb};
 ghost use Rattle.alphabet.specs.Alphabet.{is_letter};
 ghost use Rattle.bits.specs.Bits.{has_bit};
-ghost use Rattle.letters.specs.Slots.{code_at};
-ghost use Rattle.letters.specs.LetterSet.{has_letter};
+ghost use Rattle.letters.specs.LetterSet.{code_at, has_letter};
 
 use letters::LetterSet;
 

@@ -4,8 +4,8 @@
 
 ghost use Rattle.std.specs.Prelude.{◌≡◌, true, false, ◌&&◌, ℕ, ◌+◌, ◌*◌, ◌≤◌, ltb, get_or};
 ghost use Rattle.bits.specs.Bits.{has_bit};
-ghost use Rattle.alphabet.specs.Alphabet.{some_letter};
-ghost use Rattle.letters.specs.LetterSet.{has_letter};
+ghost use Rattle.alphabet.specs.Alphabet.{some_letter, is_letter};
+ghost use Rattle.letters.specs.LetterSet.{has_letter, OnlyLetters};
 ghost use Rattle.shares.specs.Tables.{Within, is_doubled, NoneDoubled, held};
 
 use graph::Built;
@@ -14,6 +14,7 @@ use letters::LetterSet;
 // The numbers up to `positions` whose sets share a letter with that of a, for every such a, in rows. Each pair is looked at once: what row
 // a gets of the numbers up to a, these get of a.
 pub fn share_rows(b: &Built) -> [u64; 61]
+    requires { OnlyLetters b.now.letters }
     ensures { (a c : ℕ) → a ≤ b.now.positions → c ≤ b.now.positions → has_bit (get_or result a 0) c ≡ some_letter (held b.now.letters a c) }
 {
     let mut rows = [0u64; 61];
@@ -27,7 +28,7 @@ pub fn share_rows(b: &Built) -> [u64; 61]
 
 // Of the numbers up to a, those whose sets share a letter with that of a.
 fn share_row(sets: &[LetterSet; 61], a: usize) -> u64
-    requires { a ≤ 60 }
+    requires { OnlyLetters sets.now × (a ≤ 60) }
     ensures { (j : ℕ) → has_bit result j ≡ (ltb j (a + 1) && some_letter (held sets.now a j)) }
 {
     let mut row = 0;
@@ -39,6 +40,7 @@ fn share_row(sets: &[LetterSet; 61], a: usize) -> u64
 
 // Is there a letter that both sets hold.
 fn share(s: LetterSet, t: LetterSet) -> bool
+    requires { (c : ℕ) → has_letter s c ≡ true → is_letter c ≡ true }
     ensures { result ≡ some_letter (λ c. has_letter s c && has_letter t c) }
 {
     !s.intersection(t).is_empty()

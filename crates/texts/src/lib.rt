@@ -3,6 +3,7 @@
 #![tactic(auto)]
 
 ghost use Rattle.std.specs.Prelude.{◌≡◌, ℕ, ◌+◌, ◌≤◌, ◌<◌, length, get_or};
+ghost use Rattle.letters.specs.LetterSet.{OnlyLetters};
 ghost use Rattle.nodes.specs.Nodes.{Step};
 ghost use Rattle.search.specs.Search.{Behind};
 ghost use Rattle.texts.specs.Texts.{Showable, letter_at, LeadsBack, Traced, Shown};
@@ -22,7 +23,7 @@ pub fn show(
     start: usize,
     base: usize,
 ) -> Option<usize>
-    requires { (start ≤ 60) × (base + 1890 ≤ length evidence.old) × ((x y : ℕ) → Step steps.now x y → Showable sets.now y) }
+    requires { (start ≤ 60) × (base + 1890 ≤ length evidence.old) × OnlyLetters sets.now × ((x y : ℕ) → Step steps.now x y → Showable sets.now y) }
     ensures says { Shown sets.now steps.now evidence.old evidence.new goal start base result }
     ensures kept { length scratch.new.numbers.now ≡ length scratch.old.numbers.now }
 {
@@ -55,7 +56,7 @@ fn trace(
     base: usize,
     n: usize,
 )
-    requires { LeadsBack scratch.now.numbers.now (i + 1) × Behind scratch.now.numbers.now i n × ((j : ℕ) → 0 < j → j ≤ i → Showable sets.now (get_or scratch.now.numbers.now j 0)) × (base + n ≤ length evidence.old) }
+    requires { OnlyLetters sets.now × LeadsBack scratch.now.numbers.now (i + 1) × Behind scratch.now.numbers.now i n × ((j : ℕ) → 0 < j → j ≤ i → Showable sets.now (get_or scratch.now.numbers.now j 0)) × (base + n ≤ length evidence.old) }
     ensures { Traced sets.now scratch.now.numbers.now evidence.old evidence.new i base n }
 {
     let mut at = i;
@@ -69,7 +70,7 @@ fn trace(
 
 // The letter shown of the node with a number: the first in order that the sets of both its sides hold.
 fn letter(sets: &[LetterSet; 61], number: u16) -> u8
-    requires { Showable sets.now number }
+    requires { OnlyLetters sets.now × Showable sets.now number }
     ensures { result ≡ letter_at sets.now number }
 {
     let (a, b) = Node::from(number).sides();

@@ -4,8 +4,7 @@ use Rattle.std.proofs.Common.{◌≡◌, ℕ, ◌+◌, refl, subst, arith}
 use Rattle.std.proofs.lemmas.List.{length-take-le}
 use Rattle.bits.proofs.Laws.{has_none}
 use Rattle.letters.specs.LetterSet.{has_letter, set_at}
-use Rattle.alphabet.proofs.Alphabet.{letter_below}
-use Rattle.letters.proofs.Sets.{is_letter_in}
+use Rattle.letters.proofs.Sets.{code_below}
 use Rattle.columns.specs.Tables.{Columns}
 use Rattle.columns.proofs.Columns.{columns_start}
 use Rattle.columns.proofs.Wide.{is_entered, all_flipped, none_flipped}
@@ -17,7 +16,7 @@ loop-i-init c = (refl, λ j h. has_none j, columns_start (is_entered c.args.b.no
 pub enter-requires : goal.enter-requires
 enter-requires c =
     let at = c.loop-i in (
-      λ x h. omega (arith, at.invariant.0, letter_below x (is_letter_in c.if-is_wide.entered x h)),
+      λ x h. omega (arith, at.invariant.0, code_below c.if-is_wide.entered x h),
       omega (arith, at.auto, length-take-le (c.args.b.now.positions + 1) c.args.b.now.letters),
     )
 
@@ -31,7 +30,7 @@ returns-then-wide-ne0 c =
     let flip = c.flip_letters in
     let z : at.i ≡ c.args.b.now.positions + 1 = omega (arith, length-take-le (c.args.b.now.positions + 1) sets) in
     subst (λ (n : ℕ). Columns (λ j b. has_letter (set_at sets j) b) n flip.new.table) z
-    (all_flipped sets at.i at.wide at.table at.invariant.2 at.invariant.1 flip.new.table flip.ensures)
+    (all_flipped sets at.i at.wide at.table at.invariant.2 c.requires at.invariant.1 flip.new.table flip.ensures)
 
 pub returns-else-wide-ne0 : goal.returns-else-wide-ne0
 returns-else-wide-ne0 c =

@@ -1,16 +1,16 @@
 -- A letter's slot is the only one in the three words. Assumes nothing.
 use mathlib.Core.Path.{◌≡◌, sym, ap, ◌∙◌}
-use mathlib.Core.Bool.{Bool, true, false, ◌&&◌, true≢false}
+use mathlib.Core.Bool.{Bool, true, ◌&&◌}
 use Prim.Native.Nat.{ℕ, ◌+◌, ◌<◌}
 use native.Mathlib.Omega.{arith}
 use lib.Dec.{eqb, leb}
-use borrow.Author.Tests.{leb-true, eqb-true, eq-eqb, ne_eqb, le-leb}
+use borrow.Author.Tests.{leb-true, eqb-true, eq-eqb, le-leb}
 use Rattle.basics.proofs.Tests.{and_parts, and_of, same_test}
 use Rattle.bits.specs.Bits.{has_bit}
 use Rattle.alphabet.specs.Alphabet.{is_letter}
-use Rattle.letters.specs.Slots.{code_at, slot_of, has_slot}
-use Rattle.letters.proofs.Slots.{slot_small, code_slot, code_equal, letter_slot, letter_at}
-use Rattle.letters.proofs.Sets.{by_letters}
+use Rattle.letters.specs.LetterSet.{code_at, slot_of, has_slot}
+use Rattle.letters.proofs.Slots.{slot_small, code_slot, code_equal, letter_slot}
+use Rattle.letters.proofs.Sets.{by_words}
 use Rattle.ranges.proofs.only.Goals as goal
 
 -- the range from a code to itself is that code
@@ -34,22 +34,17 @@ in_word code slot base w i h z l e =
 pub slot_of-slot-requires : goal.slot_of-slot-requires
 slot_of-slot-requires c = letter_slot c.args.code (let l = c.is_letter in sym l.ensures ∙ c.if-not-is_letter.false)
 
-pub invariant_of-result : goal.invariant_of-result
-invariant_of-result c =
-    let code = c.args.code in
-    let letter = let l = c.is_letter in sym l.ensures ∙ c.if-not-is_letter.false in
-    let slot = c.slot_of-slot in
-    let is : slot.result ≡ 95 → is_letter code ≡ false
-    = λ e. ap is_letter (sym (code_slot code (letter_slot code letter)) ∙ ap code_at (sym slot.ensures ∙ e)) ∙ letter_at 95 (omega arith) in
-    record { letters = c.bit-2.ensures 31 (omega arith) ∙ ne_eqb slot.result 95 (λ e. true≢false (sym letter ∙ is e)) }
-
 pub returns : goal.returns
 returns c k =
     let code = c.args.code in
-    let h = letter_slot code (let l = c.is_letter in sym l.ensures ∙ c.if-not-is_letter.false) in
+    let letter : is_letter code ≡ true = let l = c.is_letter in sym l.ensures ∙ c.if-not-is_letter.false in
+    let h = letter_slot code letter in
     let slot = c.slot_of-slot in
-    by_letters _ (eqb code)
+    by_words _ (eqb code)
     (λ i m. in_word code slot.result 0 c.bit.result i h slot.ensures (omega arith) (c.bit.ensures i m))
-    (λ i m e. in_word code slot.result 64 c.bit-2.result i h slot.ensures (omega arith) (c.bit-2.ensures i m))
+    (λ i m. in_word code slot.result 64 c.bit-2.result i h slot.ensures (omega arith) (c.bit-2.ensures i m))
     (λ i m. in_word code slot.result 128 c.bit-3.result i h slot.ensures (omega arith) (c.bit-3.ensures i m)) k
+    ∙ same_test (has_slot k && eqb code k) (is_letter k && eqb code k)
+    (λ t. let e = (and_parts (has_slot k) (eqb code k) t).1 in and_of (is_letter k) (eqb code k) (ap is_letter (sym (eqb-true code k e)) ∙ letter) e)
+    (λ t. let p = and_parts (is_letter k) (eqb code k) t in and_of (has_slot k) (eqb code k) (letter_slot k p.0) p.1)
     ∙ sym (ap (λ (t : Bool). is_letter k && t) (alone code k))

@@ -4,7 +4,7 @@ use Prim.Native.Nat.{ℕ, ◌+◌, ◌≤◌, ◌<◌}
 use native.Mathlib.Omega.{arith}
 use lib.Dec.{ltb}
 use Rattle.basics.proofs.Tests.{same_less}
-use Rattle.letters.specs.Slots.{code_at}
+use Rattle.letters.specs.LetterSet.{code_at}
 use Rattle.letters.proofs.Slots.{by_slot}
 use Rattle.ranges.proofs.slots_below.Goals as goal
 

@@ -1,12 +1,13 @@
 -- The set of both holds just what the two share, so its first letter is theirs. Assumes nothing.
-use borrow.Author.Rules.{rules}
-use mathlib.Core.Path.{◌≡◌, ap, ap₂, ◌∙◌}
-use mathlib.Core.Bool.{◌&&◌}
-use Prim.Native.Nat.{ℕ, ◌<◌}
+use mathlib.Core.Path.{◌≡◌, sym, ap, ap₂, ◌∙◌}
+use mathlib.Core.Bool.{true}
+use Prim.Native.Nat.{ℕ}
 use native.Mathlib.Omega.{arith}
-use Rattle.letters.specs.LetterSet.{has_letter}
+use Rattle.basics.proofs.Tests.{and_parts}
+use Rattle.alphabet.specs.Alphabet.{is_letter}
+use Rattle.letters.specs.LetterSet.{has_letter, set_at}
 use Rattle.letters.specs.Order.{first_letter}
-use Rattle.letters.proofs.Sets.{read_set, some_same}
+use Rattle.letters.proofs.Sets.{only_letters, some_same}
 use Rattle.nodes.specs.Nodes.{left_of, right_of}
 use Rattle.nodes.proofs.Nodes.{numbered_sides}
 use Rattle.shares.specs.Tables.{held}
@@ -15,32 +16,26 @@ use Rattle.texts.proofs.letter.Goals as goal
 use Rattle.texts.proofs.letter.Goals.{After-intersection}
 
 pub bounds-sets-a : goal.bounds-sets-a
-bounds-sets-a c = omega (arith, c.sides-a.ensures.0, (numbered_sides c.args.number c.from.result c.from.ensures).0, c.requires.left)
+bounds-sets-a c = omega (arith, c.sides-a.ensures.0, (numbered_sides c.args.number c.from.result c.from.ensures).0, c.requires.1.left)
 
 pub bounds-sets-b : goal.bounds-sets-b
-bounds-sets-b c = omega (arith, c.sides-a.ensures.1, (numbered_sides c.args.number c.from.result c.from.ensures).1, c.requires.right)
-
-pub listed : goal.listed
-listed c = omega (arith, c.told-sets, c.sides-a.ensures.0, (numbered_sides c.args.number c.from.result c.from.ensures).0, c.requires.left)
-
-pub listed-2 : goal.listed-2
-listed-2 c = omega (arith, c.told-sets, c.sides-a.ensures.1, (numbered_sides c.args.number c.from.result c.from.ensures).1, c.requires.right)
+bounds-sets-b c = omega (arith, c.sides-a.ensures.1, (numbered_sides c.args.number c.from.result c.from.ensures).1, c.requires.1.right)
 
 -- the set of both has what the sets of the node's sides share
 both_held : (c : After-intersection) (d : ℕ) → has_letter c.intersection.result d ≡ held c.args.sets.now (left_of c.args.number) (right_of c.args.number) d
 both_held c d =
-    let sets = c.args.sets.now in
     let at = numbered_sides c.args.number c.from.result c.from.ensures in
-    let left = c.sides-a.ensures.0 ∙ at.0 in
-    let right = c.sides-a.ensures.1 ∙ at.1 in
-    let low : (c.sides-a.result.0 < 61) × (c.sides-a.result.1 < 61) = (omega (arith, left, c.requires.left), omega (arith, right, c.requires.right)) in
-    let s = read_set sets c.sides-a.result.0 c.index-sets-a.result (omega (arith, c.told-sets, low.0)) c.index-sets-a.is in
-    let t = read_set sets c.sides-a.result.1 c.index-sets-b.result (omega (arith, c.told-sets, low.1)) c.index-sets-b.is in
-    let e : has_letter c.intersection.result d ≡ (has_letter c.index-sets-a.result d && has_letter c.index-sets-b.result d) = search rules in
-    e ∙ ap₂ (λ x y. has_letter x d && has_letter y d) s t ∙ ap₂ (λ i j. held sets i j d) left right
+    c.intersection.ensures d ∙ ap₂ (λ (i j : ℕ). held c.args.sets.now i j d) (c.sides-a.ensures.0 ∙ at.0) (c.sides-a.ensures.1 ∙ at.1)
 
 pub first_in_order-requires : goal.first_in_order-requires
-first_in_order-requires c = some_same c.intersection.result _ (both_held (goal.at.first_in_order-requires c).After-intersection) c.requires.some
+first_in_order-requires c =
+    let sets = c.args.sets.now in
+    let a = left_of c.args.number in
+    let b = right_of c.args.number in
+    let both = both_held (goal.at.first_in_order-requires c).After-intersection in
+    let letters : (d : ℕ) → held sets a b d ≡ true → is_letter d ≡ true
+    = λ d h. c.requires.0 a d (and_parts (has_letter (set_at sets a) d) (has_letter (set_at sets b) d) h).0 in
+    (some_same c.intersection.result (held sets a b) (λ d. both d ∙ only_letters (held sets a b) letters d) c.requires.1.some, λ d h. letters d (sym (both d) ∙ h))
 
 pub returns : goal.returns
 unfolding letter_at

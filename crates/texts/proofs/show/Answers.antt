@@ -8,7 +8,7 @@ pub trace-requires : goal.trace-requires
 trace-requires c =
     let n = c.steps_to-n.ensures in
     let reached = c.in_ok-i.ensures.says in
-    (found_leads_back reached, n.0, found_steps reached (Showable c.args.sets.now) c.requires.2, omega (arith, n.1, found_few reached c.to_goal.new.scratch.room, c.requires.1))
+    (c.requires.2, found_leads_back reached, n.0, found_steps reached (Showable c.args.sets.now) c.requires.3, omega (arith, n.1, found_few reached c.to_goal.new.scratch.room, c.requires.1))
 
 pub returns-clause-says : goal.returns-clause-says
 returns-clause-says c = shown_text c.in_ok-i.ensures.says c.to_goal.new.scratch.room c.steps_to-n.ensures.0 c.steps_to-n.ensures.1 c.trace.ensures

@@ -15,7 +15,7 @@ pub show-requires : goal.show-requires
 show-requires c =
     let fit = c.requires.0 in
     let tables = tables_of fit _ _ c.double_rows.ensures c.share_rows.ensures in
-    (omega arith, omega (arith, c.requires.1), showable fit tables)
+    (omega arith, omega (arith, c.requires.1), fit.bounded.letters, showable fit tables)
 
 pub runaway-verdict-requires : goal.runaway-verdict-requires
 runaway-verdict-requires c =

@@ -7,8 +7,5 @@ use Rattle.alphabet.specs.Alphabet.{is_letter}
 use Rattle.letters.proofs.Sets.{middle_lacks, middle_has, by_letters}
 use Rattle.letters.proofs.LetterSet.all.Goals as goal
 
-pub invariant_of-result : goal.invariant_of-result
-invariant_of-result c = record { letters = middle_lacks }
-
 pub returns : goal.returns
-returns c k = by_letters _ (λ d. true) (λ i h. has_ones 64 i ∙ lt-ltb i 64 h) middle_has (λ i h. has_ones 64 i ∙ lt-ltb i 64 h) k ∙ and-true (is_letter k)
+returns c k = by_letters _ middle_lacks (λ d. true) (λ i h. has_ones 64 i ∙ lt-ltb i 64 h) middle_has (λ i h. has_ones 64 i ∙ lt-ltb i 64 h) k ∙ and-true (is_letter k)

@@ -14,12 +14,9 @@ use Rattle.letters.proofs.LetterSet.complement.Goals as goal
 complemented : (w i : ℕ) → w < 2 ^ 64 → i < 64 → has_bit (2 ^ 64 - 1 - w) i ≡ not (has_bit w i)
 complemented w i f h = has_not 64 w i f ∙ ap (λ t. t && not (has_bit w i)) (lt-ltb i 64 h)
 
-pub invariant_of-result : goal.invariant_of-result
-invariant_of-result c = record { letters = cut_lacks (2 ^ 64 - 1 - c.args.self.middle) }
-
 pub returns : goal.returns
 returns c =
     let s = c.args.self in
-    by_letters _ (λ k. not (has_letter s k)) (λ i h. complemented s.low i (omega arith) h ∙ ap not (sym (in_low s i h)))
+    by_letters _ (cut_lacks (2 ^ 64 - 1 - s.middle)) (λ k. not (has_letter s k)) (λ i h. complemented s.low i (omega arith) h ∙ ap not (sym (in_low s i h)))
     (λ i h e. cut_has _ i h e ∙ complemented s.middle i (omega arith) h ∙ ap not (sym (in_middle s i h)))
     (λ i h. complemented s.high i (omega arith) h ∙ ap not (sym (in_high s i h)))

@@ -1,8 +1,7 @@
 -- The words stand in the order of their codes, so the lowest letter is the least member of the first word that is not empty. Assumes nothing.
 use mathlib.Core.Path.{sym, ap, ◌∙◌, subst}
 use native.Mathlib.Omega.{arith}
-use Rattle.letters.specs.Slots.{code_at}
-use Rattle.letters.specs.LetterSet.{LeastLetter}
+use Rattle.letters.specs.LetterSet.{code_at, LeastLetter}
 use Rattle.letters.proofs.Sets.{least_of, low_word, middle_word, high_word, high_some}
 use Rattle.letters.proofs.LetterSet.lowest.Goals as goal
 

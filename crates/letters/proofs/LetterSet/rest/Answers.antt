@@ -2,7 +2,7 @@
 -- off the set. Assumes nothing.
 use mathlib.Core.Path.{refl, sym, ◌∙◌}
 use native.Mathlib.Omega.{arith}
-use Rattle.letters.proofs.Sets.{at_past, rest_of, rest_lacks, low_word, middle_word, high_word, high_some, same_from_middle, same_from_high}
+use Rattle.letters.proofs.Sets.{at_past, rest_of, low_word, middle_word, high_word, high_some, same_from_middle, same_from_high}
 use Rattle.letters.proofs.LetterSet.rest.Goals as goal
 
 pub returns-then-self-ne0 : goal.returns-then-self-ne0
@@ -10,11 +10,6 @@ returns-then-self-ne0 c =
     let s = c.args.self in
     let r = c.rest in
     (omega arith, rest_of s 0 s.low (low_word s (omega arith)) _ _ (low_word _ r.type_inv) (same_from_middle _ s refl refl) (omega arith) r.ensures.1)
-
-pub invariant_of-others-then-self-ne0-2 : goal.invariant_of-others-then-self-ne0-2
-invariant_of-others-then-self-ne0-2 c =
-    let s = c.args.self in
-    record { letters = rest_lacks s.middle _ (omega arith) (omega arith) c.rest-then-self-ne0-2.ensures.1 31 s.letters }
 
 pub returns-then-self-ne0-2 : goal.returns-then-self-ne0-2
 returns-then-self-ne0-2 c =

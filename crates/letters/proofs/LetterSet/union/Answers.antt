@@ -1,15 +1,9 @@
 -- `|` works bit by bit on the words, and so code by code on the sets. Assumes nothing.
-use mathlib.Core.Path.{refl, ap₂, ◌∙◌}
+use mathlib.Core.Path.{refl}
 use mathlib.Core.Bool.{◌||◌}
 use Rattle.bits.proofs.Laws.{has_or}
 use Rattle.letters.proofs.Sets.{pointwise}
 use Rattle.letters.proofs.LetterSet.union.Goals as goal
-
-pub invariant_of-result : goal.invariant_of-result
-invariant_of-result c =
-    let s = c.args.self in
-    let t = c.args.other in
-    record { letters = has_or s.middle t.middle 31 ∙ ap₂ ◌||◌ s.letters t.letters }
 
 pub returns : goal.returns
 returns c =
