@@ -76,7 +76,7 @@ pub is_in_its_slot : (s : LetterSet) (c : ℕ) → has_slot c ≡ true → has_l
 unfolding has_letter
 is_in_its_slot s c h = ap (λ (t : Bool). t && in_slot s (slot_of c)) h
 
--- a code in a set is one of a byte
+-- a code in a set is below 256
 pub code_below : (s : LetterSet) (c : ℕ) → has_letter s c ≡ true → c < 256
 unfolding has_letter
 code_below s c h = by_half (c < 256) c (and_parts (has_slot c) (in_slot s (slot_of c)) h).0 (λ a b e. omega arith) (λ a b e. b)
