@@ -1,6 +1,6 @@
 -- A search under way, breadth first. The queue stands in the lent numbers: the i-th node taken up at i, and at 2048 + i the
 -- queue number of the node before it on the way.
-use Rattle.std.specs.Prelude.{◌≡◌, Bool, true, false, ◌&&◌, List, ℕ, suc, ◌+◌, ◌/◌, ◌%◌, ◌≤◌, ◌<◌, ltb, length, get_or, set, if◌then◌else◌, Option, None, Some}
+use Rattle.std.specs.Prelude.{◌≡◌, Bool, true, false, ◌&&◌, List, ℕ, suc, ◌+◌, ◌/◌, ◌%◌, ◌≤◌, ◌<◌, ltb, length, get_or, set, if◌then◌else◌, Option, None, Some, MatchOption}
 use Rattle.basics.specs.Lists.{end_of, Chain}
 use Rattle.bits.specs.Bits.{has_bit}
 use Rattle.graph.specs.Graph.{Graph}
@@ -96,6 +96,11 @@ pub record Ended (t : Steps) (s s' : List ℕ) (w w' : Search) : Type 0 where
 abbrev pub Visited : Steps → List ℕ → List ℕ → Search → Search → Option (ℕ × Node) → Type 0
 Visited t s s' w w' None = Ended t s s' w w'
 Visited t s s' w w' (Some (i, y)) = TookUp t s s' w w' i y
+
+-- a visit of any queue: it takes one node up, or the search is over; where the queue is that of a search, the search goes on
+pub record Tried (t : Steps) (s s' : List ℕ) (w w' : Search) (r : Option (ℕ × Node)) : Type 0 where
+  pub ends : MatchOption r ((w'.tail ≡ w.tail) × (w'.tail ≤ w'.head)) (λ _. w'.tail ≡ w.tail + 1)
+  pub right : SoundSearch t s w → Visited t s s' w w' r
 
 -- a search under way that has taken up no goal
 pub record Searching (t : Steps) (s : List ℕ) (goal : Goal) (start : ℕ) (w : Search) : Type 0 where

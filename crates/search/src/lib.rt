@@ -6,7 +6,7 @@ ghost use Rattle.std.specs.Prelude.{◌≡◌, ℕ, ◌≤◌, ◌<◌, length};
 ghost use Rattle.graph.specs.Graph.{Graph};
 ghost use Rattle.nodes.specs.declared.Steps.{Steps};
 ghost use Rattle.nodes.specs.Nodes.{Fits, number_of};
-ghost use Rattle.search.specs.Search.{back_of, enqueue, is_goal, SoundSearch, Begun, Visited, Searched, IsFirstPivot};
+ghost use Rattle.search.specs.Search.{back_of, enqueue, is_goal, Begun, Tried, Searched, IsFirstPivot};
 ghost use Rattle.shares.specs.Tables.{Tables};
 
 use nodes::{Node, Seen, Steps};
@@ -132,12 +132,15 @@ impl Search {
     }
 
     // One visit: one node more is taken up, the first new one that is a step on from the head of the queue, and given with its queue
-    // number. A head with none is passed.
+    // number. A head with none is passed. It is safe and ends whatever the search and the lent numbers hold.
     fn visit(&mut self, steps: &Steps, scratch: &mut Scratch) -> Option<(usize, Node)>
-        requires { SoundSearch steps.now scratch.old.numbers.now self.old }
-        ensures says { Visited steps.now scratch.old.numbers.now scratch.new.numbers.now self.old self.new result }
+        ensures says { Tried steps.now scratch.old.numbers.now scratch.new.numbers.now self.old self.new result }
         ensures kept { length scratch.new.numbers.now ≡ length scratch.old.numbers.now }
     {
+        if BACK <= self.tail {
+            self.head = self.tail;
+            return None;
+        }
         while self.head < self.tail {
             let x = Node::from(scratch.numbers[self.head]);
             if let Some(next) = steps.next_new(&self.seen, self.pending, x) {

@@ -11,7 +11,12 @@ pub loop-i-init : goal.loop-i-init
 loop-i-init c = (search_first (c.begin-search.ensures.says c.args.steps.now) (sym c.is_met.ensures ∙ c.if-is_met.false), c.begin-search.ensures.kept)
 
 pub returns-clause-says : goal.returns-clause-says
-returns-clause-says c = none_found (search_over c.loop-i.invariant.0 c.in_default.ensures.says) c.in_default.ensures.says.over
+returns-clause-says c =
+    let l = c.loop-i.invariant.0 in
+    let v = c.in_default.ensures.says.right l.sound in
+    none_found (search_over l v) v.over
 
 pub returns-then-is_met-2-clause-says : goal.returns-then-is_met-2-clause-says
-returns-then-is_met-2-clause-says c = search_found c.loop-i.invariant.0 c.in-Some.ensures.says (sym c.is_met-in-Some.ensures ∙ c.if-is_met-2.true)
+returns-then-is_met-2-clause-says c =
+    let l = c.loop-i.invariant.0 in
+    search_found l (c.in-Some.ensures.says.right l.sound) (sym c.is_met-in-Some.ensures ∙ c.if-is_met-2.true)
