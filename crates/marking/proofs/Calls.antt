@@ -38,7 +38,7 @@ use Rattle.calls.proofs.Vetting as Vetting
 use Rattle.marking.specs.Packing.{field, VetFields, refused, vet_fields_of, vet_unpacked, int32, MarkFields, mark_fields_of, mark_unpacked}
 use Rattle.marking.specs.ForC.{MarkForC, VetForC, VetAlone}
 use Rattle.marking.proofs.Demands as Demands
-use Rattle.marking.proofs.Packing.{vet_fields, mark_fields, mark_unpacks}
+use Rattle.marking.proofs.Packing.{vet_fields, mark_fields, mark_read}
 use Rattle.marking.proofs.Stored as Stored
 use Rattle.std.proofs.lemmas.Grind.{common_steps}
 
@@ -190,7 +190,7 @@ mark_fields_again b s old new n h = mark_fields b s old new n h
 -- `marking_mark` gave n, and behind the pointer stood `old` before and stands `new` after: the header's fields of n, with `new` for
 -- the count, keep all of it,
 pub marking_mark_keeps : (b s : List ℕ) (old new n : ℕ) → MarkForC b s old new n → MarkKeeps b s (mark_unpacked n new)
-marking_mark_keeps b s old new n h = subst (MarkKeeps b s) (sym (mark_unpacks b s old new n h)) (mark_answer_keeps b s h.marked h.says)
+marking_mark_keeps b s old new n h = subst (MarkKeeps b s) (sym (mark_read b s old new n h)) (mark_answer_keeps b s h.marked h.says)
 
 -- and at a refusal the number behind the pointer is as before.
 pub marking_mark_stores : (b s : List ℕ) (old new n : ℕ) → MarkForC b s old new n → ((mark_unpacked n new).refusal ≡ 0 → ⊥) → new ≡ old

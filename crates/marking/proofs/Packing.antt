@@ -6,6 +6,8 @@ use native.Mathlib.Omega.{arith}
 use Rattle.std.specs.Prelude.{Result, Ok, Err, IfOk}
 use Rattle.pattern.specs.declared.Refusal.{Refusal}
 use Rattle.vetting.specs.declared.Vetted.{Vetted}
+use Rattle.marks.specs.declared.Marked.{Marked}
+use Rattle.calls.specs.Marking.{MarkSays}
 use Rattle.calls.specs.Vetting.{VetSays}
 use Rattle.marking.specs.Packing.{field, ShortTexts, VetFields, vet_fields_of, vet_packed, vet_unpacked, int32, mark_fields_of, mark_unpacked}
 use Rattle.marking.specs.ForC.{MarkForC, VetForC}
@@ -46,5 +48,10 @@ pub mark_fields : (s a : List ℕ) (old new n : ℕ) (h : MarkForC s a old new n
     → let f = mark_fields_of h.marked in (field n 32 8 ≡ f.refusal) × (int32 (field n 0 32) ≡ f.mark) × (field n 40 16 ≡ f.taken)
 mark_fields s a old new n h = grind (arith, common_steps)
 
-pub mark_unpacks : (s a : List ℕ) (old new n : ℕ) (h : MarkForC s a old new n) → mark_unpacked n new ≡ mark_fields_of h.marked
-mark_unpacks s a old new n h = grind (arith, common_steps)
+pub mark_read : (s a : List ℕ) (old new n : ℕ) (h : MarkForC s a old new n) → mark_unpacked n new ≡ mark_fields_of h.marked
+mark_read s a old new n h = grind (arith, common_steps)
+
+-- so what the header reads from a number are the fields of a result of which MarkSays holds
+pub mark_unpacks : (s a : List ℕ) (old new n : ℕ) → MarkForC s a old new n
+    → (r : Result Marked Refusal) × MarkSays s a r × (mark_unpacked n new ≡ mark_fields_of r)
+mark_unpacks s a old new n h = (h.marked, h.says, mark_read s a old new n h)
