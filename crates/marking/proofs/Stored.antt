@@ -9,24 +9,10 @@ use Rattle.std.specs.Prelude.{Result, Ok, Err, MatchResult}
 use Rattle.basics.proofs.Tests.{if_yes, if_no}
 use Rattle.pattern.specs.Refusals.{number_of}
 use Rattle.pattern.specs.declared.Refusal.{Refusal}
-use Rattle.pattern.specs.declared.Refusal.TheVariants.{ShortEvidence, ShortScratch, LongPattern, PatternNotLetters, BrokenGrammar, ReversedRange, EmptyClass, ManyPositions, LongAnswer, AnswerNotLetters, WrongBounds}
+use Rattle.pattern.proofs.Numbers.{number_low}
 use Rattle.marks.specs.declared.Marked.{Marked}
 use Rattle.calls.specs.Marking.{mark_refusal, count_shown, MarkSays}
 use Rattle.marking.specs.ForC.{count_after}
-
--- no refusal has the number 0
-numbered : (e : Refusal) → number_of e ≡ 0 → ⊥
-numbered ShortEvidence z = omega (arith, z)
-numbered ShortScratch z = omega (arith, z)
-numbered LongPattern z = omega (arith, z)
-numbered PatternNotLetters z = omega (arith, z)
-numbered BrokenGrammar z = omega (arith, z)
-numbered ReversedRange z = omega (arith, z)
-numbered EmptyClass z = omega (arith, z)
-numbered ManyPositions z = omega (arith, z)
-numbered LongAnswer z = omega (arith, z)
-numbered AnswerNotLetters z = omega (arith, z)
-numbered WrongBounds z = omega (arith, z)
 
 module _ (s a : List ℕ) where
   pub count_kept : (old : ℕ) → (mark_refusal s a ≡ 0 → ⊥) → count_after s a old ≡ old
@@ -35,4 +21,4 @@ module _ (s a : List ℕ) where
   pub count_after_is : (r : Result Marked Refusal) (old new : ℕ) → MarkSays s a r → MatchResult r (λ m. new ≡ m.count) (λ _. new ≡ old) → new ≡ count_after s a old
   count_after_is (Ok m) old new h w =
       w ∙ h.marked.count ∙ sym (if_yes (count_shown s a) old (eqb (mark_refusal s a) 0) (eq-eqb (mark_refusal s a) 0 (sym h.refusal)))
-  count_after_is (Err e) old new h w = w ∙ sym (count_kept old (λ z. numbered e (h.refusal ∙ z)))
+  count_after_is (Err e) old new h w = w ∙ sym (count_kept old (λ z. let is : number_of e ≡ 0 = h.refusal ∙ z in omega (arith, (number_low e).0, is)))

@@ -21,7 +21,7 @@ use Rattle.nodes.specs.declared.Steps.{Steps}
 use Rattle.search.specs.Search.{Searching, Reached, IsFirstPivot}
 use Rattle.search.proofs.Found.{both_in, reached_parts, none_parts, none_found}
 
--- both paths at q
+-- both paths in the set m
 abbrev pub only_at : ℕ → Goal
 only_at m = Parted m
 
