@@ -58,7 +58,8 @@ impl Node {
 }
 
 // The nodes that a search has taken up: the states in a set, and a pair in both of its rows, so that row a has b and row b has a. So
-// whether a node is new is one bit, and the new partners of a position are one word.
+// whether a node is new is one bit, and the new partners of a position are one word. Any value may be given: of a pair in one row
+// alone, each function goes by the row that its contract names.
 #[derive(Clone, Copy)]
 pub struct Seen {
     pub states: u64,
