@@ -2,7 +2,7 @@
 -- of codes below 128 is a run of bits. Assumes nothing.
 use mathlib.Core.Path.{◌≡◌, refl, sym, ap, ◌∙◌}
 use mathlib.Core.Logic.{⊎_elim}
-use mathlib.Core.Bool.{Bool, true, false, not, ◌&&◌, true≢false}
+use mathlib.Core.Bool.{Bool, true, false, not, ◌&&◌, and_assoc, and_self_left, true≢false}
 use mathlib.Core.List.{List, [], ◌∷◌}
 use Prim.Native.Nat.{ℕ, zero, suc, ◌+◌, ◌-◌, ◌^◌, ◌≤◌, ◌<◌}
 use native.Mathlib.Omega.{arith}
@@ -11,7 +11,7 @@ use borrow.Author.Tests.{leb-true}
 use Rattle.std.specs.Prelude.{if◌then◌else◌}
 use Rattle.basics.proofs.Tests.{and_parts, and_of, same_test, by_test, if_yes, if_no, if_either, le_or_lt}
 use Rattle.bits.specs.Bits.{has_bit}
-use Rattle.alphabet.specs.Alphabet.{is_letter, some_from, some_letter, lowest_letter}
+use Rattle.alphabet.specs.Alphabet.{is_letter, some_from, lowest_from, some_letter, lowest_letter}
 use Rattle.alphabet.proofs.Alphabet.{in_first, lowest_letter_is, lowest_none, letter_below, letter_some}
 use Rattle.letters.specs.LetterSet.{has_slot, slot_of, in_slot, has_letter, LeastLetter}
 use native.Mathlib.Numerals.{add-one}
@@ -74,6 +74,33 @@ first_place (r ∷ rs) f h c i k = by_test (some_letter (among r f)) here (later
 pub first_least : (f : ℕ → Bool) (c : ℕ) → is_letter c ≡ true → f c ≡ true → place (first_letter f) ≤ place c
 unfolding first_letter
 first_least f c i k = first_place order f (letter_some f c i k) c i k
+
+-- ---- of two sets with the same letters, whatever else is in them
+
+same_first : (rs : List Range) (f g : ℕ → Bool) → ((c : ℕ) → (is_letter c && f c) ≡ (is_letter c && g c)) → first_by rs f ≡ first_by rs g
+same_first [] f g same = λ i. lowest_from 256 0 (λ c. same c i)
+same_first (r ∷ rs) f g same =
+    let inner : (c : ℕ) → (is_letter c && among r f c) ≡ (is_letter c && among r g c)
+    = λ c. sym (and_assoc (is_letter c) (f c) (in_range r c)) ∙ ap (λ (t : Bool). t && in_range r c) (same c) ∙ and_assoc (is_letter c) (g c) (in_range r c) in
+    λ i. if some_from 256 0 (λ c. inner c i) then lowest_from 256 0 (λ c. inner c i) else same_first rs f g same i
+
+-- there is a letter in both or in neither
+pub some_alike : (f g : ℕ → Bool) → ((c : ℕ) → (is_letter c && f c) ≡ (is_letter c && g c)) → some_letter f ≡ some_letter g
+some_alike f g same = λ i. some_from 256 0 (λ c. same c i)
+
+-- and their first letters are one
+pub first_alike : (f g : ℕ → Bool) → ((c : ℕ) → (is_letter c && f c) ≡ (is_letter c && g c)) → first_letter f ≡ first_letter g
+unfolding first_letter
+first_alike f g same = same_first order f g same
+
+-- a set and its letters alone
+pub letters_alike : (f g : ℕ → Bool) → ((c : ℕ) → g c ≡ (is_letter c && f c)) → (c : ℕ) → (is_letter c && g c) ≡ (is_letter c && f c)
+letters_alike f g same c = ap (λ (t : Bool). is_letter c && t) (same c) ∙ and_self_left (is_letter c) (f c)
+
+-- the first of none is 0
+pub first_of_none : (f : ℕ → Bool) → ((c : ℕ) → f c ≡ false) → first_letter f ≡ 0
+unfolding first_letter some_from lowest_from
+first_of_none f none = λ i. first_letter (λ c. none c i)
 
 -- ---- a range asked of a set s that holds letters only: g is the set of the range, and both has the letters of s in it
 

@@ -19,7 +19,7 @@ use Rattle.alphabet.specs.Alphabet.{is_letter, some_letter, lowest_letter}
 use Rattle.letters.specs.LetterSet.{has_slot, slot_of, code_at, in_slot, has_letter, Some, LeastLetter, set_at}
 use Rattle.letters.specs.declared.LetterSet.{LetterSet}
 use Rattle.alphabet.proofs.Alphabet.{lowest_letter_is, lowest_none, letter_some}
-use Rattle.letters.proofs.Slots.{by_half, slot_code, by_slots, code_less, code_equal, letter_slot, letter_at}
+use Rattle.letters.proofs.Slots.{by_half, code_low, slot_code, by_slots, code_less, code_equal, letter_slot, letter_at}
 
 -- ---- the three words
 
@@ -148,6 +148,13 @@ pub is_letter_in : (s : LetterSet) → has_bit s.middle 31 ≡ false → (c : �
 is_letter_in s lacks c h =
     let same = by_letters s lacks (has_letter s) (λ i k. sym (in_low s i k)) (λ i k e. sym (in_middle s i k)) (λ i k. sym (in_high s i k)) c in
     (and_parts (is_letter c) (has_letter s c) (sym same ∙ h)).0
+
+-- and any set has besides letters 127 alone
+pub is_letter_but : (s : LetterSet) (c : ℕ) → (127 ≡ c → ⊥) → (is_letter c && has_letter s c) ≡ has_letter s c
+is_letter_but s =
+    by_slots (λ (c : ℕ). (127 ≡ c → ⊥) → (is_letter c && has_letter s c) ≡ has_letter s c)
+    (λ c h e. ap (λ t. is_letter c && t) (not_in s c h) ∙ and-false (is_letter c) ∙ sym (not_in s c h))
+    (λ i l e. ap (λ t. t && has_letter s (code_at i)) (letter_at i l ∙ ap not (ne_eqb 95 i (λ z. e (sym (code_low 95 (omega arith)) ∙ ap code_at z)))))
 
 -- ---- the middle word without 127
 

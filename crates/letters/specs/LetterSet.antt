@@ -48,3 +48,7 @@ set_at sets i = get_or sets i record { low = 0; middle = 0; high = 0 }
 -- the sets of an array hold letters only
 abbrev pub OnlyLetters : List LetterSet → Type 0
 OnlyLetters sets = (i c : ℕ) → has_letter (set_at sets i) c ≡ true → is_letter c ≡ true
+
+-- each set of `letters` is that of `sets` with its letters alone
+abbrev pub LettersOf : List LetterSet → List LetterSet → Type 0
+LettersOf sets letters = (i c : ℕ) → has_letter (set_at letters i) c ≡ (is_letter c && has_letter (set_at sets i) c)

@@ -1,18 +1,19 @@
-// Sets of letters. The contract of a set says of each code c, letter or not, whether the set has it, and only the lowest
-// letter, the rest and the first letter in order ask that the set is not empty.
+// Sets of letters. The contract of a set says of each code c, letter or not, whether the set has it, and only `lowest`, `rest` and
+// `first_of_letters` ask that the set is not empty.
 #![tactic(auto)]
 
 ghost use Rattle.std.specs.Prelude.{◌≡◌, true, false, not, ◌&&◌, ◌||◌, ℕ, ◌<◌};
 ghost use Rattle.basics.specs.Folds.{Less};
 ghost use Rattle.alphabet.specs.Alphabet.{is_letter};
-ghost use Rattle.letters.specs.LetterSet.{in_slot, has_slot, slot_of, code_at, has_letter, Some, LeastLetter, is_wide, weight};
+ghost use Rattle.letters.specs.LetterSet.{in_slot, has_slot, slot_of, code_at, has_letter, Some, LeastLetter, LettersOf, is_wide, weight};
 ghost use Rattle.letters.specs.Order.{first_letter};
 
 use bits::NumberSet;
 
 // A set has 192 slots, a bit each: 0 to 63 are those of `low`, then come those of `middle` and of `high`. The codes 32 to 127 have the
 // slots 0 to 95, and 160 to 255 have 96 to 191. All of these are letters but 127, slot 95, bit 31 of `middle`: no set has it but one
-// that is written so by its fields, or made of such a one. Besides this crate only `ranges` uses the three fields.
+// that is written so by its fields, or made of such a one. Besides this crate only `ranges` and the tests of `any_sets` use the three
+// fields.
 #[derive(Clone, Copy)]
 pub struct LetterSet {
     pub low: u64,
@@ -25,10 +26,16 @@ const FULL: u64 = u64::MAX;
 
 pub const FULL_MIDDLE: u64 = 0xffff_ffff_7fff_ffff;
 
+// The code of the slot that is no letter's.
+pub const DELETE: u8 = 127;
+
 // The lowest code that has a slot, and the lowest of those past 127.
 const FIRST: u8 = 32;
 
 const FIRST_HIGH: u8 = 160;
+
+// What is shown of a set that has no letter.
+const NO_LETTER: u8 = 0;
 
 // The letters a to z: slots 65 to 90.
 const SMALL: LetterSet = LetterSet {
@@ -182,7 +189,7 @@ impl LetterSet {
 
     // The letter shown of a set that is not empty and holds letters only: the first in the order a to z, A to Z, 0 to 9, then the
     // others by code. Where the set has nothing of the three ranges, its lowest letter is one of the others.
-    pub fn first_in_order(self) -> u8
+    pub fn first_of_letters(self) -> u8
         requires { Some self × ((c : ℕ) → has_letter self c ≡ true → is_letter c ≡ true) }
         ensures { result ≡ first_letter (has_letter self) }
     {
@@ -193,6 +200,25 @@ impl LetterSet {
             }
         }
         self.lowest()
+    }
+
+    // The letters of the set: all that it has but 127.
+    pub fn letters(self) -> LetterSet
+        ensures { (c : ℕ) → has_letter result c ≡ (is_letter c && has_letter self c) }
+    {
+        self.intersection(LetterSet::all())
+    }
+
+    // The letter shown of any set: the first of its letters in the same order, or 0, which is none, where it has none.
+    pub fn first_in_order(self) -> u8
+        ensures { result ≡ first_letter (has_letter self) }
+    {
+        let letters = self.letters();
+        if letters.is_empty() {
+            NO_LETTER
+        } else {
+            letters.first_of_letters()
+        }
     }
 }
 
@@ -207,6 +233,17 @@ impl NumberSet for LetterSet {
         }
         Some((self.lowest() as usize, self.rest()))
     }
+}
+
+// The letters of each set of an array.
+pub fn letters_of(sets: &[LetterSet; 61]) -> [LetterSet; 61]
+    ensures { LettersOf sets.now result }
+{
+    let mut letters = *sets;
+    for i in 0..61 {
+        letters[i] = sets[i].letters();
+    }
+    letters
 }
 
 // The slot of a code that has one.

@@ -27,7 +27,7 @@ pub fn mark(b: Built, more: &[u8; 3721], answer: &[u8]) -> Marked
     ensures { Answered (graph_of_built b more.now) answer.now result.count result.mark × (result.taken ≡ letters_taken (graph_of_built b more.now) answer.now) }
 {
     let before = columns::states_before(&b);
-    let holders = columns::holders_of(&b);
+    let holders = columns::holders_of_letters(&b);
     let links = Links {
         before: &before,
         credits: &b.credits,

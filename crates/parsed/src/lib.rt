@@ -5,6 +5,7 @@
 ghost use Rattle.std.specs.Prelude.{◌≡◌, ◌≤◌};
 ghost use Rattle.pattern.specs.Parts.{skips, loops};
 ghost use Rattle.pattern.specs.Grammar.{read_letter};
+ghost use Rattle.set_table.specs.Tables.{LettersStay};
 ghost use Rattle.parsed.specs.Parsed.{rule_of, Letters, Repeats, nothing_read, Either, Joins};
 
 use set_table::Tables;
@@ -121,7 +122,8 @@ impl Parsed {
 // first and last. Its letters and its credit go to the tables. More than 60 positions count as 61.
 pub fn letter<'a>(text: &'a [u8], n: usize, tables: &mut Tables) -> Option<(Parsed, &'a [u8])>
     requires { n ≤ 61 }
-    ensures { Letters text.now n tables.old tables.new (read_letter text.now) result }
+    ensures says { Letters text.now n tables.old tables.new (read_letter text.now) result }
+    ensures letters { LettersStay tables.old tables.new }
 {
     let (a, rest) = atoms::atom(text)?;
     let k = (n + 1).min(61);

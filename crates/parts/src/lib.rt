@@ -9,6 +9,7 @@
 ghost use Rattle.std.specs.Prelude.{◌≡◌, [], ◌≤◌};
 ghost use Rattle.pattern.specs.Grammar.{goes_on, pattern_from, branch_from};
 ghost use Rattle.links.specs.Rows.{NoneCounted};
+ghost use Rattle.set_table.specs.Tables.{LettersStay};
 ghost use Rattle.parsed.specs.Tables.{Stored};
 ghost use Rattle.parsed.specs.Parsed.{memory};
 ghost use Rattle.parts.specs.Parsing.{Parses, ParsesAll, closed_from};
@@ -32,7 +33,8 @@ pub struct ParsedRows<'a> {
 // The pattern at the front of a text. The whole of it follows the grammar where nothing is left after that.
 pub fn parse<'a>(text: &'a [u8], tables: &mut Tables, more: &mut [u8; 3721]) -> ParsedRows<'a>
     requires { Stored [] tables.old.sets tables.old.credits × NoneCounted more.old }
-    ensures { ParsesAll text.now more.new tables.new result }
+    ensures says { ParsesAll text.now more.new tables.new result }
+    ensures letters { LettersStay tables.old tables.new }
 {
     let rows = [0u64; 61];
     pattern(text, 0, rows, tables, more)
@@ -48,7 +50,8 @@ fn pattern<'a>(
     more: &mut [u8; 3721],
 ) -> ParsedRows<'a>
     requires { n ≤ 61 }
-    ensures { Parses pattern_from 2 text.now n (memory rows more.old tables.old) (memory result.rows more.new tables.new) result.read }
+    ensures says { Parses pattern_from 2 text.now n (memory rows more.old tables.old) (memory result.rows more.new tables.new) result.read }
+    ensures letters { LettersStay tables.old tables.new }
 {
     let mut all = rows;
     let mut so_far = Parsed::nothing(n, false);
@@ -76,7 +79,8 @@ fn branch<'a>(
     more: &mut [u8; 3721],
 ) -> Option<(Parsed, &'a [u8])>
     requires { n ≤ 61 }
-    ensures { Parses branch_from 1 text.now n (memory rows.old more.old tables.old) (memory rows.new more.new tables.new) result }
+    ensures says { Parses branch_from 1 text.now n (memory rows.old more.old tables.old) (memory rows.new more.new tables.new) result }
+    ensures letters { LettersStay tables.old tables.new }
 {
     let mut so_far = Parsed::nothing(n, true);
     let mut left = text;
@@ -109,7 +113,8 @@ fn piece<'a>(
     more: &mut [u8; 3721],
 ) -> ParsedRows<'a>
     requires { n ≤ 61 }
-    ensures { Parses closed_from 3 text.now n (memory rows more.old tables.old) (memory result.rows more.new tables.new) result.read }
+    ensures says { Parses closed_from 3 text.now n (memory rows more.old tables.old) (memory result.rows more.new tables.new) result.read }
+    ensures letters { LettersStay tables.old tables.new }
 {
     let mut p = pattern(text, n, rows, tables, more);
     p.read = match p.read {

@@ -4,6 +4,7 @@
 
 ghost use Rattle.std.specs.Prelude.{◌≡◌};
 ghost use Rattle.bounds.specs.Bounds.{bounds_of};
+ghost use Rattle.set_table.specs.Tables.{LettersStay};
 ghost use Rattle.parsed.specs.Parsed.{memory};
 ghost use Rattle.chains.specs.Chains.{how_many};
 ghost use Rattle.repeats.specs.Repeats.{Placed, WritesOut, ReadsRepeat};
@@ -24,7 +25,8 @@ pub fn repeat<'a>(
     more: &mut [u8; 3721],
 ) -> Option<(Parsed, &'a [u8])>
     requires { Placed n p }
-    ensures { ReadsRepeat text.now n (memory rows.old more.old tables.old) (memory rows.new more.new tables.new) p result }
+    ensures says { ReadsRepeat text.now n (memory rows.old more.old tables.old) (memory rows.new more.new tables.new) p result }
+    ensures letters { LettersStay tables.old tables.new }
 {
     match text {
         [b'?', rest @ ..] => Some((p.again(rows, more, Repeat::Optional), rest)),
@@ -48,7 +50,8 @@ fn interval(
     more: &mut [u8; 3721],
 ) -> Parsed
     requires { Placed n p }
-    ensures { WritesOut n i (memory rows.old more.old tables.old) (memory rows.new more.new tables.new) p result }
+    ensures says { WritesOut n i (memory rows.old more.old tables.old) (memory rows.new more.new tables.new) p result }
+    ensures letters { LettersStay tables.old tables.new }
 {
     if bounds::out_of_bounds(i) {
         return Parsed {

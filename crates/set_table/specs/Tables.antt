@@ -1,6 +1,6 @@
 -- The tables of letters and of raised credits: what the contracts cite.
 use Rattle.std.specs.Prelude.{◌≡◌, ℕ, ◌+◌, ◌≤◌, ◌<◌, get_or}
-use Rattle.letters.specs.LetterSet.{set_at}
+use Rattle.letters.specs.LetterSet.{set_at, OnlyLetters}
 use Rattle.letters.specs.declared.LetterSet.{LetterSet}
 use Rattle.set_table.specs.declared.Tables.{Tables}
 
@@ -18,3 +18,7 @@ pub record Repeats (from to by : ℕ) (before after : Tables) : Type 0 where
   pub copied : (i : ℕ) → from ≤ i → i < to → entry_at after (i + by) ≡ entry_at after i
   pub below : (i : ℕ) → i < from + by → entry_at after i ≡ entry_at before i
   pub above : (i : ℕ) → to + by ≤ i → entry_at after i ≡ entry_at before i
+
+-- where the sets held letters only, they still do
+abbrev pub LettersStay : Tables → Tables → Type 0
+LettersStay before after = OnlyLetters before.sets → OnlyLetters after.sets

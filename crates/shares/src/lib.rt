@@ -11,9 +11,9 @@ ghost use Rattle.shares.specs.Tables.{Within, is_doubled, NoneDoubled, held};
 use graph::Built;
 use letters::LetterSet;
 
-// The numbers up to `positions` whose sets share a letter with that of a, for every such a, in rows. Each pair is looked at once: what row
-// a gets of the numbers up to a, these get of a.
-pub fn share_rows(b: &Built) -> [u64; 61]
+// The numbers up to `positions` whose sets share a letter with that of a, for every such a, in rows, as the sets hold letters only. Each
+// pair is looked at once: what row a gets of the numbers up to a, these get of a.
+pub fn share_rows_of_letters(b: &Built) -> [u64; 61]
     requires { OnlyLetters b.now.letters }
     ensures { (a c : ℕ) → a ≤ b.now.positions → c ≤ b.now.positions → has_bit (get_or result a 0) c ≡ some_letter (held b.now.letters a c) }
 {
@@ -24,6 +24,15 @@ pub fn share_rows(b: &Built) -> [u64; 61]
         rows[a] = row;
     }
     rows
+}
+
+// The same, whatever the sets hold: 127 is no letter that they share.
+pub fn share_rows(b: &Built) -> [u64; 61]
+    ensures { (a c : ℕ) → a ≤ b.now.positions → c ≤ b.now.positions → has_bit (get_or result a 0) c ≡ some_letter (held b.now.letters a c) }
+{
+    let mut cut = *b;
+    cut.letters = letters::letters_of(&b.letters);
+    share_rows_of_letters(&cut)
 }
 
 // Of the numbers up to a, those whose sets share a letter with that of a.

@@ -12,9 +12,9 @@ use letters::LetterSet;
 use nodes::{Node, Steps};
 use search::{Goal, Scratch};
 
-// Searches, and writes the text of a shortest way to a goal at base: its length, or None where there is no goal. What is lent to the search
-// stays as long.
-pub fn show(
+// Searches, and writes the text of a shortest way to a goal at base, of sets that hold letters only: its length, or None where there is no
+// goal. What is lent to the search stays as long.
+pub fn spell(
     steps: &Steps,
     sets: &[LetterSet; 61],
     scratch: &mut Scratch,
@@ -31,6 +31,24 @@ pub fn show(
     let n = steps_to(&*scratch, i);
     trace(sets, &*scratch, &mut *evidence, i, base, n);
     Some(n)
+}
+
+// The same, whatever the sets hold: of their letters the first in order is written, and never 127.
+pub fn show(
+    steps: &Steps,
+    sets: &[LetterSet; 61],
+    scratch: &mut Scratch,
+    evidence: &mut [u8],
+    goal: Goal,
+    start: usize,
+    base: usize,
+) -> Option<usize>
+    requires { (start ≤ 60) × (base + 1890 ≤ length evidence.old) × ((x y : ℕ) → Step steps.now x y → Showable sets.now y) }
+    ensures says { Shown sets.now steps.now evidence.old evidence.new goal start base result }
+    ensures kept { length scratch.new.numbers.now ≡ length scratch.old.numbers.now }
+{
+    let cut = letters::letters_of(sets);
+    spell(steps, &cut, scratch, evidence, goal, start, base)
 }
 
 // How many steps lead to the i-th node of the queue.
@@ -74,5 +92,5 @@ fn letter(sets: &[LetterSet; 61], number: u16) -> u8
     ensures { result ≡ letter_at sets.now number }
 {
     let (a, b) = Node::from(number).sides();
-    sets[a].intersection(sets[b]).first_in_order()
+    sets[a].intersection(sets[b]).first_of_letters()
 }

@@ -37,13 +37,13 @@ pub fn vet(b: Built, more: &[u8; 3721], evidence: &mut [u8], scratch: &mut [u16]
     let steps = Steps {
         follow: b.follow,
         doubles: shares::double_rows(&b, more),
-        shares: shares::share_rows(&b),
+        shares: shares::share_rows_of_letters(&b),
     };
     let mut scratch = Scratch { numbers: scratch };
     let verdict = match search::first_pivot(&steps, &mut scratch, b.positions) {
         None => {
             let goal = Goal::Parted(b.lasts);
-            match texts::show(&steps, &b.letters, &mut scratch, &mut *evidence, goal, 0, 0) {
+            match texts::spell(&steps, &b.letters, &mut scratch, &mut *evidence, goal, 0, 0) {
                 None => Verdict::Single,
                 Some(n) => Verdict::Steady { text: n as u32 },
             }
@@ -77,9 +77,9 @@ fn runaway(
     let arrive = Goal::OnePath(here);
     let loops = Goal::Parted(here);
     let leave = Goal::OnePath(b.lasts);
-    let x = texts::show(&one_path, sets, &mut *scratch, &mut *evidence, arrive, 0, 0).unwrap();
-    let y = texts::show(steps, sets, &mut *scratch, &mut *evidence, loops, q, x).unwrap();
-    let z = texts::show(
+    let x = texts::spell(&one_path, sets, &mut *scratch, &mut *evidence, arrive, 0, 0).unwrap();
+    let y = texts::spell(steps, sets, &mut *scratch, &mut *evidence, loops, q, x).unwrap();
+    let z = texts::spell(
         &one_path,
         sets,
         &mut *scratch,

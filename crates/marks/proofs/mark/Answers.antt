@@ -22,7 +22,7 @@ summed : (c : After-run-end) → let g = graph_of_built c.args.b c.args.more.now
     Summed g c.args.answer.now c.run-end.result.sum.count c.run-end.result.sum.most × (c.run-end.result.taken ≡ letters_taken g c.args.answer.now)
 summed c =
     let a = c.args in
-    built_summed a.b a.more c.requires.0 c.holders_of-holders.result c.holders_of-holders.ensures c.requires.1 c.states_before-before.ensures refl
+    built_summed a.b a.more c.requires.0 c.holders_of_letters-holders.result c.holders_of_letters-holders.ensures c.requires.1 c.states_before-before.ensures refl
     (elim c.if-b.branch [
       | then-b w ↦ w.links-is ∙ ap (λ (t : Bool). looked_up t a.more) (sym w.if-b.true)
       | else-b w ↦ w.links-is ∙ ap (λ (t : Bool). looked_up t a.more) (sym w.if-b.false)
@@ -35,7 +35,7 @@ states_before-before-requires c =
 
 pub run-end-requires : goal.run-end-requires
 run-end-requires c =
-    let holders = c.holders_of-holders in
+    let holders = c.holders_of_letters-holders in
     let fits : (x : ℕ) → Fits w64 (get_or holders.result x 0) = λ x. search rules in
     (c.requires.2, (λ x. holders_low c.args.b c.args.more c.requires.0 holders.result holders.ensures x (fits x).fits), search rules)
 

@@ -12,8 +12,8 @@ use Rattle.parsed.proofs.Joining.{gives_as, has_read_letter}
 use Rattle.parsed.proofs.letter.Goals as goal
 use Rattle.parsed.proofs.letter.Goals.{then-k-lt-ROWS, else-k-lt-ROWS}
 
-pub returns : goal.returns
-returns c rows more =
+pub returns-clause-says : goal.returns-clause-says
+returns-clause-says c rows more =
     let k = c.min-k in
     let l = c.in_ok-a.a in
     let w = c.in_ok-a.ensures in

@@ -22,7 +22,7 @@ pub returns : goal.returns
 returns c =
     let s = c.args.s.now in
     let now = c.parse-p.new in
-    let parsed : Whole (shape_of (pattern_part s)) c.parse-p.result.rows now.more now.tables.sets now.tables.credits _ = rw (← c.in-Some-default-empty.part-is) at (rw c.in-Some-default-empty.is at c.parse-p.ensures).has in
+    let parsed : Whole (shape_of (pattern_part s)) c.parse-p.result.rows now.more now.tables.sets now.tables.credits _ = rw (← c.in-Some-default-empty.part-is) at (rw c.in-Some-default-empty.is at c.parse-p.ensures.says).has in
     let few : positions (pattern_part s) ≤ 60 = let count = parsed.count in let n = c.if-part-gt-MOST.false in omega arith in
     let w = parsed.keeps few in
     let none : pattern_refusal s ≡ 0 = search rules in

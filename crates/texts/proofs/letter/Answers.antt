@@ -27,16 +27,16 @@ both_held c d =
     let at = numbered_sides c.args.number c.from.result c.from.ensures in
     c.intersection.ensures d ∙ ap₂ (λ (i j : ℕ). held c.args.sets.now i j d) (c.sides-a.ensures.0 ∙ at.0) (c.sides-a.ensures.1 ∙ at.1)
 
-pub first_in_order-requires : goal.first_in_order-requires
-first_in_order-requires c =
+pub first_of_letters-requires : goal.first_of_letters-requires
+first_of_letters-requires c =
     let sets = c.args.sets.now in
     let a = left_of c.args.number in
     let b = right_of c.args.number in
-    let both = both_held (goal.at.first_in_order-requires c).After-intersection in
+    let both = both_held (goal.at.first_of_letters-requires c).After-intersection in
     let letters : (d : ℕ) → held sets a b d ≡ true → is_letter d ≡ true
     = λ d h. c.requires.0 a d (and_parts (has_letter (set_at sets a) d) (has_letter (set_at sets b) d) h).0 in
     (some_same c.intersection.result (held sets a b) (λ d. both d ∙ only_letters (held sets a b) letters d) c.requires.1.some, λ d h. letters d (sym (both d) ∙ h))
 
 pub returns : goal.returns
 unfolding letter_at
-returns c = c.first_in_order.ensures ∙ ap first_letter (λ i d. both_held (goal.at.returns c).After-intersection d i)
+returns c = c.first_of_letters.ensures ∙ ap first_letter (λ i d. both_held (goal.at.returns c).After-intersection d i)

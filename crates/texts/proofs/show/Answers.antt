@@ -1,14 +1,19 @@
--- What is written is the text of the nodes on the way to the goal, which are a chain of steps with none twice. Assumes nothing.
-use native.Mathlib.Omega.{arith}
-use Rattle.texts.specs.Texts.{Showable}
-use Rattle.texts.proofs.Tracing.{found_leads_back, found_few, found_steps, shown_text}
+-- What is shown of sets is what is shown of their letters alone. Assumes nothing.
+use Rattle.letters.specs.LetterSet.{has_letter, set_at}
+use Rattle.alphabet.specs.Alphabet.{is_letter}
+use Rattle.basics.proofs.Tests.{and_parts}
+use mathlib.Core.Path.{sym, ◌∙◌}
+use Rattle.texts.proofs.Letters.{showable_alike, shown_alike}
 use Rattle.texts.proofs.show.Goals as goal
 
-pub trace-requires : goal.trace-requires
-trace-requires c =
-    let n = c.steps_to-n.ensures in
-    let reached = c.in_ok-i.ensures.says in
-    (c.requires.2, found_leads_back reached, n.0, found_steps reached (Showable c.args.sets.now) c.requires.3, omega (arith, n.1, found_few reached c.to_goal.new.scratch.room, c.requires.1))
+pub spell-requires : goal.spell-requires
+spell-requires c =
+    let cut = c.letters_of-cut in (
+      c.requires.0,
+      c.requires.1,
+      λ i k h. (and_parts (is_letter k) (has_letter (set_at c.args.sets.now i) k) (sym (cut.ensures i k) ∙ h)).0,
+      λ x y s. showable_alike _ _ cut.ensures (c.requires.2 x y s),
+    )
 
 pub returns-clause-says : goal.returns-clause-says
-returns-clause-says c = shown_text c.in_ok-i.ensures.says c.to_goal.new.scratch.room c.steps_to-n.ensures.0 c.steps_to-n.ensures.1 c.trace.ensures
+returns-clause-says c = shown_alike _ _ c.letters_of-cut.ensures _ _ _ _ _ _ _ c.spell.ensures.says

@@ -7,34 +7,34 @@ use Rattle.vetting.proofs.runaway.Goals as goal
 pub only-here-requires : goal.only-here-requires
 only-here-requires c = omega (arith, first_low c.requires.0 c.requires.2)
 
-pub show-requires : goal.show-requires
-show-requires c =
+pub spell-requires : goal.spell-requires
+spell-requires c =
     let fit = c.requires.0 in
     (omega arith, omega (arith, c.requires.3), fit.bounded.letters, showable_alone fit c.requires.1)
 
 pub unwrap-x-requires : goal.unwrap-x-requires
-unwrap-x-requires c = way_in_some c.requires.0 c.requires.2 c.requires.1 _ c.only-here.ensures _ _ c.show.result c.show.ensures.says
+unwrap-x-requires c = way_in_some c.requires.0 c.requires.2 c.requires.1 _ c.only-here.ensures _ _ c.spell.result c.spell.ensures.says
 
-pub show-requires-2 : goal.show-requires-2
-show-requires-2 c =
+pub spell-requires-2 : goal.spell-requires-2
+spell-requires-2 c =
     let fit = c.requires.0 in
-    let x = text_of _ _ _ _ _ _ _ c.unwrap-x.ensures c.show.ensures.says in
-    (first_low fit c.requires.2, omega (arith, c.requires.3, c.show.auto.evidence, x.few), fit.bounded.letters, showable fit c.requires.1)
+    let x = text_of _ _ _ _ _ _ _ c.unwrap-x.ensures c.spell.ensures.says in
+    (first_low fit c.requires.2, omega (arith, c.requires.3, c.spell.auto.evidence, x.few), fit.bounded.letters, showable fit c.requires.1)
 
 pub unwrap-y-requires : goal.unwrap-y-requires
-unwrap-y-requires c = loops_some c.requires.0 c.requires.2 c.requires.1 _ c.only-here.ensures _ _ _ c.show-2.result c.show-2.ensures.says
+unwrap-y-requires c = loops_some c.requires.0 c.requires.2 c.requires.1 _ c.only-here.ensures _ _ _ c.spell-2.result c.spell-2.ensures.says
 
-pub show-requires-3 : goal.show-requires-3
-show-requires-3 c =
+pub spell-requires-3 : goal.spell-requires-3
+spell-requires-3 c =
     let fit = c.requires.0 in
-    let x = way_in_short fit c.requires.2 c.requires.1 _ c.only-here.ensures (text_of _ _ _ _ _ _ _ c.unwrap-x.ensures c.show.ensures.says) in
-    let y = text_of _ _ _ _ _ _ _ c.unwrap-y.ensures c.show-2.ensures.says in
-    (first_low fit c.requires.2, omega (arith, c.requires.3, c.show.auto.evidence, c.show-2.auto.evidence, x, y.few), fit.bounded.letters, showable_alone fit c.requires.1)
+    let x = way_in_short fit c.requires.2 c.requires.1 _ c.only-here.ensures (text_of _ _ _ _ _ _ _ c.unwrap-x.ensures c.spell.ensures.says) in
+    let y = text_of _ _ _ _ _ _ _ c.unwrap-y.ensures c.spell-2.ensures.says in
+    (first_low fit c.requires.2, omega (arith, c.requires.3, c.spell.auto.evidence, c.spell-2.auto.evidence, x, y.few), fit.bounded.letters, showable_alone fit c.requires.1)
 
 pub unwrap-z-requires : goal.unwrap-z-requires
-unwrap-z-requires c = way_out_some c.requires.0 c.requires.2 c.requires.1 _ c.only-here.ensures _ _ _ c.show-3.result c.show-3.ensures.says
+unwrap-z-requires c = way_out_some c.requires.0 c.requires.2 c.requires.1 _ c.only-here.ensures _ _ _ c.spell-3.result c.spell-3.ensures.says
 
 pub returns : goal.returns
 returns c =
-    runaway_answer c.requires.0 c.requires.2 c.requires.1 _ c.only-here.ensures (text_of _ _ _ _ _ _ _ c.unwrap-x.ensures c.show.ensures.says) (text_of _ _ _ _ _ _ _ c.unwrap-y.ensures c.show-2.ensures.says)
-    (text_of _ _ _ _ _ _ _ c.unwrap-z.ensures c.show-3.ensures.says)
+    runaway_answer c.requires.0 c.requires.2 c.requires.1 _ c.only-here.ensures (text_of _ _ _ _ _ _ _ c.unwrap-x.ensures c.spell.ensures.says) (text_of _ _ _ _ _ _ _ c.unwrap-y.ensures c.spell-2.ensures.says)
+    (text_of _ _ _ _ _ _ _ c.unwrap-z.ensures c.spell-3.ensures.says)

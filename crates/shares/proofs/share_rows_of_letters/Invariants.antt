@@ -3,7 +3,7 @@ use Rattle.std.proofs.Common.{◌≡◌, ◌&&◌, ℕ, ◌<◌, ltb, get_or, le
 use Rattle.bits.specs.Bits.{has_bit}
 use Rattle.alphabet.specs.Alphabet.{some_letter}
 use Rattle.shares.specs.Tables.{held}
-use Rattle.shares.proofs.share_rows.Given as goal
+use Rattle.shares.proofs.share_rows_of_letters.Given as goal
 
 abbrev pub invariant-loop-a : goal.invariant-loop-a
 invariant-loop-a l = (length l.rows ≡ 61) × ((i j : ℕ) → i < l.a → has_bit (get_or l.rows i 0) j ≡ (ltb j l.a && some_letter (held l.b.letters i j)))
